@@ -1,0 +1,71 @@
+#!/usr/bin/env bash
+# Time mint beside the plain C program on the same texts and compare their answers.
+# Prints for each text the milliseconds of both (median of 5 runs in turn, the start
+# of the process included) and their ratio; ends with status 1 if the answers differ.
+# MINT names another program to run, from the top of the repository; CC a compiler.
+export LC_ALL=C
+cd "$(dirname "$0")/.." || exit 1
+mint=${MINT:-./mint}
+
+for compiler in ${CC:-cc gcc clang} ''; do
+    command -v "$compiler" >/dev/null 2>&1 && break
+done
+if [ -z "$compiler" ]; then
+    echo "no C compiler here: nothing compared"
+    exit 0
+fi
+if [ -z "${EPOCHREALTIME:-}" ]; then
+    echo "this bash has no EPOCHREALTIME: nothing compared"
+    exit 0
+fi
+if ! command -v "$mint" >/dev/null; then
+    echo "no program $mint"
+    exit 1
+fi
+
+work=$(mktemp -d) || exit 1
+trap 'rm -rf "$work"' EXIT
+"$compiler" -O2 -o "$work/plain" bench/plain.c || exit 1
+cp examples/golay.txt "$work/golay.txt" || exit 1
+python3 bench/make_wide.py >"$work/wide.txt" || exit 1
+
+# answer_of PROGRAM TEXT: what it prints, and its status
+answer_of() {
+    "$1" :memory: - 16,32 check <"$2"
+    echo "status $?"
+}
+
+# time_of PROGRAM TEXT: microseconds of one run
+time_of() {
+    local start=${EPOCHREALTIME/./}
+    "$1" :memory: - 16,32 check <"$2" >/dev/null
+    echo $((${EPOCHREALTIME/./} - start))
+}
+
+median() { sort -n "$1" | sed -n 3p; }
+
+result=0
+for name in golay wide; do
+    text=$work/$name.txt
+    answer_of "$mint" "$text" >"$work/mint.answer"
+    answer_of "$work/plain" "$text" >"$work/plain.answer"
+    if ! cmp -s "$work/mint.answer" "$work/plain.answer"; then
+        echo "$name: the answers differ"
+        sed 's/^/  mint:  /' "$work/mint.answer"
+        sed 's/^/  plain: /' "$work/plain.answer"
+        result=1
+        continue
+    fi
+    : >"$work/mint.times"
+    : >"$work/plain.times"
+    for _ in 1 2 3 4 5; do
+        time_of "$mint" "$text" >>"$work/mint.times"
+        time_of "$work/plain" "$text" >>"$work/plain.times"
+    done
+    of_mint=$(median "$work/mint.times")
+    of_plain=$(median "$work/plain.times")
+    awk -v name="$name" -v mint="$of_mint" -v plain="$of_plain" 'BEGIN {
+        printf "%s: mint %.1f ms, plain %.1f ms, ratio %.2f\n",
+            name, mint / 1000, plain / 1000, mint / plain }'
+done
+exit $result

@@ -1,0 +1,6 @@
+mod EndLemmas
+mod HeaderTexts
+mod InputLemmas
+mod NumberTexts
+mod RowTexts
+mod TextLemmas

@@ -1,0 +1,43 @@
+//! mint: a parameter server for digital nets.
+#![tactic(auto)]
+
+mod command;
+mod first;
+mod input;
+mod status;
+#[cfg(test)]
+mod tests;
+mod texts;
+
+use command::{run_command, write_answer};
+use mt_io::{StdSink, StdSource};
+use status::Status;
+use std::env;
+use std::io::ErrorKind;
+use std::process::ExitCode;
+use texts::USAGE;
+
+// The store or the feed cannot be opened.
+const UNOPENED: u8 = 11;
+
+fn main(rt: HostRuntime) -> ExitCode {
+    let mut output = StdSink::new(rt.stdout());
+    let words = match env::args(&rt) {
+        Ok(words) => words,
+        Err(error) if error.kind() == ErrorKind::OutOfMemory => {
+            return ExitCode::from(Status::Memory.number());
+        }
+        Err(_) => return ExitCode::from(write_answer(&mut output, Status::Words, USAGE).number()),
+    };
+    let Ok(words) = words.collect::<Vec<String>>(rt.alloc()) else {
+        return ExitCode::from(Status::Memory.number());
+    };
+    let [_, store, feed, command @ ..] = words.as_slice() else {
+        return ExitCode::from(write_answer(&mut output, Status::Words, USAGE).number());
+    };
+    if store.as_str() != ":memory:" || feed.as_str() != "-" {
+        return ExitCode::from(UNOPENED);
+    }
+    let mut input = StdSource::new(rt.stdin());
+    ExitCode::from(run_command(rt.alloc(), command, &mut input, &mut output).number())
+}

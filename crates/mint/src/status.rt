@@ -1,0 +1,39 @@
+//! How a command ends.
+ghost use Rattle.std.specs.Prelude.{◌≡◌};
+ghost use Rattle.mint.specs.Statuses.{number_of_status};
+
+/// How a command ended. The program ends with its number.
+#[derive(Clone, Copy, PartialEq, Eq, Debug)]
+pub enum Status {
+    /// The command was done, and its text written.
+    Ok,
+    /// Want of memory. Nothing was written.
+    Memory,
+    /// The words are no command.
+    Words,
+    /// The text is refused.
+    Refused,
+    /// The input failed. Nothing was written.
+    ReadFault,
+    /// The output failed. A front of the text was written.
+    WriteFault,
+    /// The text is none that the program reads so far.
+    Later,
+}
+
+impl Status {
+    /// The number with which the program ends.
+    pub fn number(self) -> u8
+        ensures { result ≡ number_of_status self }
+    {
+        match self {
+            Status::Ok => 0,
+            Status::Memory => 1,
+            Status::Words => 2,
+            Status::Refused => 3,
+            Status::ReadFault => 4,
+            Status::WriteFault => 5,
+            Status::Later => 10,
+        }
+    }
+}

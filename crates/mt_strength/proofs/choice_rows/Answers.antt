@@ -1,0 +1,18 @@
+use Rattle.std.proofs.Common.{◌≡◌, ◌+◌, ◌-◌, ◌++◌, length, get_or, ap, ◌∙◌, arith}
+use Rattle.mt_system.specs.Rows.{row_of, first_rows}
+use Rattle.mt_strength.specs.Dependence.{lists_of}
+use Rattle.mt_strength.proofs.RowLemmas.{AllAtMost-at, rows_more}
+use Rattle.mt_strength.proofs.choice_rows.Goals as goal
+
+pub push_rows-requires-clause-few : goal.push_rows-requires-clause-few
+push_rows-requires-clause-few c = rw c.sizes-sizes.ensures.value (AllAtMost-at c.args.system.now.depth c.args.choice.now c.loop-i.i c.requires.choice.at_most (omega (arith, ap length c.sizes-sizes.ensures.value)))
+
+pub loop-i-preserved : goal.loop-i-preserved
+loop-i-preserved c =
+    let back : (c.loop-i.i + 1) - 1 ≡ c.loop-i.i = omega arith in
+    record {
+      rest = rows_more (row_of c.args.system.now) c.sizes-sizes.result.now c.loop-i.i (lists_of c.loop-i.rows.items) (lists_of c.push_rows.new.rows.items) _
+          (omega arith) c.loop-i.invariant.rest
+          (c.in_ok-push_rows.ensures.added ∙ ap (λ n. lists_of c.loop-i.rows.items ++ first_rows (row_of c.args.system.now n) (get_or c.sizes-sizes.result.now c.loop-i.i 0)) back);
+      all = c.in_ok-push_rows.ensures.all;
+    }
