@@ -90,7 +90,7 @@ fn dependence(
 }
 
 /// Whether the system has strength `k`: every choice of at most `k` first rows, taken over its coordinates, is linearly
-/// independent (Niederreiter, 1987; for fewer rows than `k` in a coordinate Lawrence, 1996, and Mullen and Schmid, 1996).
+/// independent (Niederreiter, 1987; with fewer than `k` rows in a coordinate Lawrence, 1996, and Mullen and Schmid, 1996).
 ///
 /// Else it answers the first dependent choice, by size and then by the list of its sizes.
 pub fn check(alloc: Global, system: &System, k: u8) -> Result<Verdict, AllocError>
