@@ -19,8 +19,8 @@ pub struct FirstClaim {
     pub system: System,
 }
 
-/// Reads the canonical import text of an `ooa` claim of order 2 or 3, with at most 16 columns, 32 coordinates and 500,000
-/// choices. `None` exactly where the text is none.
+/// Reads the canonical import text of an `ooa` claim of order 2 or 3, with at most 16 columns, 32
+/// coordinates and 500,000 choices. `None` exactly where the text is none.
 pub fn read(alloc: Global, text: &[u8]) -> Result<Option<FirstClaim>, AllocError>
     ensures { IfOk result (IsReading text.now) }
 {
@@ -38,7 +38,8 @@ pub fn read(alloc: Global, text: &[u8]) -> Result<Option<FirstClaim>, AllocError
     Ok(Some(FirstClaim { name, k, system }))
 }
 
-// Order, columns, coordinates, depth and strength, then the name, and the text behind the first line.
+// Order, columns, coordinates, depth and strength, then the name, and the text behind the first
+// line.
 #[derive(Drop)]
 struct Header<'a> {
     numbers: [u8; 5],
@@ -47,7 +48,9 @@ struct Header<'a> {
 }
 
 fn read_header(text: &[u8]) -> Option<Header>
-    ensures { MatchOption result ((numbers name rows : List ℕ) → IsHeader text.now numbers name rows → ⊥) (λ h. IsHeader text.now h.numbers h.name.now h.rows.now) }
+    ensures { MatchOption result
+        ((numbers name rows : List ℕ) → IsHeader text.now numbers name rows → ⊥)
+        (λ h. IsHeader text.now h.numbers h.name.now h.rows.now) }
 {
     let (numbers, text) = read_numbers(text.strip_prefix(b"ooa ")?)?;
     let end = line_end(text)?;
@@ -60,14 +63,18 @@ fn read_header(text: &[u8]) -> Option<Header>
 
 // The place of the first line feed.
 fn line_end(text: &[u8]) -> Option<usize>
-    ensures { MatchOption result (All (λ b. b ≢ 10) text.now) (λ i. (i < length text.now) × (slice_index text.now i ≡ 10) × All (λ b. b ≢ 10) (take i text.now)) }
+    ensures { MatchOption result
+        (All (λ b. b ≢ 10) text.now)
+        (λ i. (i < length text.now) × (slice_index text.now i ≡ 10)
+        × All (λ b. b ≢ 10) (take i text.now)) }
 {
     text.iter().position(|byte| *byte == b'\n')
 }
 
 // Five numbers, and the text behind them.
 fn read_numbers(text: &[u8]) -> Option<([u8; 5], &[u8])>
-    ensures { MatchOption result ((numbers rest : List ℕ) → IsSpaced text.now numbers rest → ⊥) (λ r. IsSpaced text.now r.0 r.1.now) }
+    ensures { MatchOption result ((numbers rest : List ℕ) → IsSpaced text.now numbers rest → ⊥)
+        (λ r. IsSpaced text.now r.0 r.1.now) }
 {
     let mut numbers = [0u8; 5];
     let mut rest = text;
@@ -81,7 +88,9 @@ fn read_numbers(text: &[u8]) -> Option<([u8; 5], &[u8])>
 
 // A number below 100, and the text behind its space.
 fn read_number(text: &[u8]) -> Option<(u8, &[u8])>
-    ensures { MatchOption result ((n : ℕ) (rest : List ℕ) → n < 100 → text.now ≢ decimal n ++ 32 ∷ rest) (λ r. (r.0 < 100) × (text.now ≡ decimal r.0 ++ 32 ∷ r.1.now)) }
+    ensures { MatchOption result
+        ((n : ℕ) (rest : List ℕ) → n < 100 → text.now ≢ decimal n ++ 32 ∷ rest)
+        (λ r. (r.0 < 100) × (text.now ≡ decimal r.0 ++ 32 ∷ r.1.now)) }
 {
     for number in 0..100u8 {
         if let Some(rest) = after_number(text, number) {
@@ -94,7 +103,8 @@ fn read_number(text: &[u8]) -> Option<(u8, &[u8])>
 // The text behind this number and its space.
 fn after_number(text: &[u8], number: u8) -> Option<&[u8]>
     requires { number < 100 }
-    ensures { MatchOption result ((rest : List ℕ) → text.now ≢ decimal number ++ 32 ∷ rest) (λ r. text.now ≡ decimal number ++ 32 ∷ r.now) }
+    ensures { MatchOption result ((rest : List ℕ) → text.now ≢ decimal number ++ 32 ∷ rest)
+        (λ r. text.now ≡ decimal number ++ 32 ∷ r.now) }
 {
     if number < 10 {
         text.strip_prefix(&[b'0' + number, b' '])
@@ -105,7 +115,9 @@ fn after_number(text: &[u8], number: u8) -> Option<&[u8]>
 
 // The order of a header whose numbers and name are within bounds.
 fn checked_order(header: &Header) -> Option<Order>
-    ensures { MatchOption result ((o : Order) → IsWithin header.now.numbers header.now.name.now o → ⊥) (λ o. IsWithin header.now.numbers header.now.name.now o) }
+    ensures { MatchOption result
+        ((o : Order) → IsWithin header.now.numbers header.now.name.now o → ⊥)
+        (λ o. IsWithin header.now.numbers header.now.name.now o) }
 {
     let [number, m, s, depth, k] = header.numbers;
     let order = Order::of_number(number as u64)?;
@@ -153,7 +165,9 @@ fn read_system(
     requires columns { 0 < m }
     requires coordinates { 0 < s }
     requires rows { 0 < depth }
-    ensures { IfOk result (λ r. MatchOption r ((a : Matrices) → IsRowsOf order m s depth text.now a → ⊥) (IsRowsOf order m s depth text.now)) }
+    ensures { IfOk result (λ r. MatchOption r
+        ((a : Matrices) → IsRowsOf order m s depth text.now a → ⊥)
+        (IsRowsOf order m s depth text.now)) }
 {
     let Some(digits) = read_rows(
         alloc,
@@ -180,7 +194,9 @@ fn read_rows(
     text: &[u8],
 ) -> Result<Option<Vec<u8>>, AllocError>
     requires { q ≤ 9 }
-    ensures { IfOk result (λ r. MatchOption r ((digits : List ℕ) → IsRows q m rows text.now digits → ⊥) (λ v. IsRows q m rows text.now v.items)) }
+    ensures { IfOk result (λ r. MatchOption r
+        ((digits : List ℕ) → IsRows q m rows text.now digits → ⊥)
+        (λ v. IsRows q m rows text.now v.items)) }
 {
     let mut digits = Vec::new(alloc);
     let mut rest = text;
@@ -200,7 +216,9 @@ fn read_rows(
 // The first row, and the text behind its line feed.
 fn split_row(text: &[u8], q: u8, m: usize) -> Option<(&[u8], &[u8])>
     requires { q ≤ 9 }
-    ensures { MatchOption result (StartsWithRow q m text.now → ⊥) (λ r. StartsWithRow q m text.now × (r.0.now ≡ take m text.now) × (r.1.now ≡ drop (m + 1) text.now)) }
+    ensures { MatchOption result (StartsWithRow q m text.now → ⊥)
+        (λ r. StartsWithRow q m text.now × (r.0.now ≡ take m text.now)
+        × (r.1.now ≡ drop (m + 1) text.now)) }
 {
     if starts_with_row(text, q, m) {
         Some((&text[..m], &text[m + 1..]))

@@ -32,9 +32,11 @@ pub fn read_input<R: Source>(
     input: &mut R,
     most: usize,
 ) -> Result<Vec<u8>, InputRefused>
-    ensures text { IfOk result (λ text. IsInput most (R.left input.old) (R.left input.new) text.items) }
+    ensures text { IfOk result
+        (λ text. IsInput most (R.left input.old) (R.left input.new) text.items) }
     ensures few { TakesAtMost most (R.left input.old) (R.left input.new) }
-    ensures fault { IsErrOf result InputRefused.Fault → Rose (R.faults input.old) (R.faults input.new) }
+    ensures fault { IsErrOf result InputRefused.Fault
+        → Rose (R.faults input.old) (R.faults input.new) }
 {
     let mut buffer = vec![in alloc; 0u8; most]?;
     let filled = fill(input, &mut buffer).map_err(|_| InputRefused::Fault)?;
@@ -45,7 +47,9 @@ pub fn read_input<R: Source>(
 // Reads the input to its end, or until the buffer is full, and answers how many bytes were read.
 fn fill<R: Source>(input: &mut R, buffer: &mut [u8]) -> Result<usize, Failed>
     ensures within { IfOk result (λ n. n ≤ length buffer.new) }
-    ensures text { IfOk result (λ n. IsInput (length buffer.new) (R.left input.old) (R.left input.new) (take n buffer.new)) }
+    ensures text { IfOk result
+        (λ n. IsInput (length buffer.new) (R.left input.old) (R.left input.new) (take n
+        buffer.new)) }
     ensures few { TakesAtMost (length buffer.new) (R.left input.old) (R.left input.new) }
     ensures fault { OnErr result (Rose (R.faults input.old) (R.faults input.new)) }
 {

@@ -44,7 +44,8 @@ fn push_list(alloc: Global, text: &mut Vec<u8>, numbers: &[u8]) -> Result<(), Al
 
 // Adds the numbers in decimal, with a comma before each.
 fn push_behind(alloc: Global, text: &mut Vec<u8>, numbers: &[u8]) -> Result<(), AllocError>
-    ensures { OnOk result (text.new.items ≡ text.old.items ++ flat_map (λ n. 44 ∷ decimal n) numbers.now) }
+    ensures { OnOk result (text.new.items ≡ text.old.items ++ flat_map
+        (λ n. 44 ∷ decimal n) numbers.now) }
 {
     for number in numbers {
         text.push(b',')?;

@@ -19,13 +19,15 @@ pub use steady::{SteadySink, SteadySource};
 #[derive(Clone, Copy, PartialEq, Eq, Debug)]
 pub struct Failed;
 
-/// A stream of bytes to read. `left` is the bytes that are left, where the object tells them; `faults` counts its failures.
+/// A stream of bytes to read. `left` is the bytes that are left, where the object tells them;
+/// `faults` counts its failures.
 pub trait Source {
     ghost left: { Self → Option (List ℕ) };
 
     ghost faults: { Self → ℕ };
 
-    /// Takes bytes from the front of those left, puts them at the front of `buf`, and answers how many they are: 0 exactly where none is left.
+    /// Takes bytes from the front of those left, puts them at the front of `buf`, and answers how
+    /// many they are: 0 exactly where none is left.
     fn read(&mut self, buf: &mut [u8]) -> Result<usize, Failed>
         requires { 0 < length buf.old }
         ensures bound { ReadsAtMost result buf.new }
@@ -33,7 +35,8 @@ pub trait Source {
         ensures cause { HasCause (faults self.old) (faults self.new) result };
 }
 
-/// A stream of bytes to write. `written` is the bytes written so far, where the object tells them; `faults` counts its failures.
+/// A stream of bytes to write. `written` is the bytes written so far, where the object tells them;
+/// `faults` counts its failures.
 pub trait Sink {
     ghost written: { Self → Option (List ℕ) };
 

@@ -17,11 +17,6 @@ use Rattle.mt_system.proofs.ChoiceOrder.{sum-cons, rank, weight, rank_rises, ran
 use Rattle.mt_strength.specs.Dependence.{lists_of, IsRelation}
 use Rattle.mt_strength.specs.Verdicts.{EarlierIndependent, IsFirstDependent}
 
-pub AllAtMost-at : (depth : ℕ) (c : List ℕ) (k : ℕ) → AllAtMost depth c → k < length c → get_or c k 0 ≤ depth
-AllAtMost-at depth [] k h l = absurd (omega arith)
-AllAtMost-at depth (x ∷ xs) zero h l = h.0
-AllAtMost-at depth (x ∷ xs) (suc k) h l = AllAtMost-at depth xs k h.1 (omega arith)
-
 pub rows_by-same : (M N : ℕ → ℕ → List ℕ) (c : List ℕ) → ((i j : ℕ) → M i j ≡ N i j) → rows_by M c ≡ rows_by N c
 rows_by-same M N [] h = refl
 rows_by-same M N (d ∷ ds) h = ap₂ (λ (a b : List (List ℕ)). a ++ b) (first_rows-same (M 0) (N 0) d (h 0)) (rows_by-same (λ i. M (suc i)) (λ i. N (suc i)) ds (λ i j. h (suc i) j))

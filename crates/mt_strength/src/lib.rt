@@ -20,7 +20,8 @@ use std::alloc::{AllocError, Global};
 pub enum Verdict {
     /// Every choice of at most `k` rows is independent.
     Holds,
-    /// The first dependent choice, and the one combination of its rows to zero whose last coefficient is 1.
+    /// The first dependent choice, and the one combination of its rows to zero whose last
+    /// coefficient is 1.
     Dependent {
         choice: Choice,
         coefficients: Vector,
@@ -39,7 +40,8 @@ fn push_rows(
     requires coordinate_to { i ≤ system.now.coordinates }
     requires few { count ≤ system.now.depth }
     requires all { AllOf system.now.order system.now.columns rows.old.items }
-    ensures added { OnOk result (lists_of rows.new.items ≡ lists_of rows.old.items ++ first_rows (row_of system.now (i - 1)) count) }
+    ensures added { OnOk result (lists_of rows.new.items ≡ lists_of rows.old.items
+        ++ first_rows (row_of system.now (i - 1)) count) }
     ensures all { AllOf system.now.order system.now.columns rows.new.items }
 {
     for j in 0..count {
@@ -72,7 +74,9 @@ fn dependence(
 ) -> Result<Option<Vector>, AllocError>
     requires all { AllOf order m rows.now }
     requires front { Independent order (take (length rows.now - 1) (lists_of rows.now)) }
-    ensures independent { IfOk result (λ r. MatchOption r (Independent order (lists_of rows.now)) (λ c. (c.order ≡ order) × IsRelation order (lists_of rows.now) c.digits)) }
+    ensures independent { IfOk result (λ r. MatchOption r
+        (Independent order (lists_of rows.now))
+        (λ c. (c.order ≡ order) × IsRelation order (lists_of rows.now) c.digits)) }
 {
     let mut basis = Basis::new(alloc, order, m)?;
     for row in rows {
@@ -89,8 +93,9 @@ fn dependence(
     Ok(None)
 }
 
-/// Whether the system has strength `k`: every choice of at most `k` first rows, taken over its coordinates, is linearly
-/// independent (Niederreiter, 1987; with fewer than `k` rows in a coordinate Lawrence, 1996, and Mullen and Schmid, 1996).
+/// Whether the system has strength `k`: every choice of at most `k` first rows, taken over its
+/// coordinates, is linearly independent (Niederreiter, 1987; with fewer than `k` rows in a
+/// coordinate Lawrence, 1996, and Mullen and Schmid, 1996).
 ///
 /// Else it answers the first dependent choice, by size and then by the list of its sizes.
 pub fn check(alloc: Global, system: &System, k: u8) -> Result<Verdict, AllocError>

@@ -11,7 +11,7 @@ use Rattle.mt_linear.proofs.Abstract.{sum_of, sum_null, sum_first, sum_cong, mul
 use Rattle.mt_system.specs.Choices.{AllAtMost}
 use Rattle.mt_system.specs.Rows.{Matrices, row_of, first_rows, rows_by, rows_of, Strength}
 use Rattle.mt_system.proofs.AbstractStrength.{Table, size_of, size_first, combination, IsFree, HasStrength}
-use Rattle.mt_system.proofs.ChoiceOrder.{sum-cons}
+use Rattle.mt_system.proofs.ChoiceOrder.{sum-cons, AllAtMost-at}
 
 -- rows of numbers as rows of elements
 abbrev pub elements_of : (o : Order) → (ℕ → ℕ → List ℕ) → Table (Digit (number_of o))
@@ -37,11 +37,6 @@ sum_sizes (suc s) d = sum-cons (d 0) (sizes s (λ i. d (suc i))) ∙ ap (λ n. d
 AllAtMost-sizes : (depth s : ℕ) (d : ℕ → ℕ) → ((i : ℕ) → i < s → d i ≤ depth) → AllAtMost depth (sizes s d)
 AllAtMost-sizes depth zero d h = tt
 AllAtMost-sizes depth (suc s) d h = (h 0 (zero-lt-suc s), AllAtMost-sizes depth s (λ i. d (suc i)) (λ i l. h (suc i) (suc-le-suc l)))
-
-AllAtMost-at : (depth : ℕ) (c : List ℕ) (i : ℕ) → AllAtMost depth c → slice_index c i ≤ depth
-AllAtMost-at depth [] i h = omega arith
-AllAtMost-at depth (d ∷ ds) zero h = h.0
-AllAtMost-at depth (d ∷ ds) (suc i) h = AllAtMost-at depth ds i h.1
 
 -- a list has the sizes at its places
 sizes_back : (c : List ℕ) → sizes (length c) (slice_index c) ≡ c

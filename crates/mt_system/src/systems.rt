@@ -30,7 +30,13 @@ impl Model for System {
 
     ghost Value = { Matrices };
 
-    ghost view = { λ a. record { order = a.order; columns = a.m; coordinates = a.s; depth = a.depth; digits = a.digits.items } };
+    ghost view = { λ a. record {
+      order = a.order;
+      columns = a.m;
+      coordinates = a.s;
+      depth = a.depth;
+      digits = a.digits.items;
+    } };
 
     ghost invariant = { λ a. IsSystem a.order a.m a.s a.depth a.digits.items };
 }
@@ -39,7 +45,8 @@ impl System {
     ghost use Rattle.mt_system.specs.Rows.{Matrices, IsSystem, row_of};
     ghost use Rattle.mt_system.specs.Refusals.{IsAnswer};
 
-    /// The system with these digits, by coordinate, row and column. Refuses wrong sizes first, then a digit of the order or more.
+    /// The system with these digits, by coordinate, row and column. Refuses wrong sizes first, then
+    /// a digit of the order or more.
     pub fn new(
         order: Order,
         m: u8,
@@ -50,7 +57,13 @@ impl System {
         requires columns { 0 < m }
         requires coordinates { 0 < s }
         requires rows { 0 < depth }
-        ensures { IsAnswer (record { order = order; columns = m; coordinates = s; depth = depth; digits = digits.items }) result }
+        ensures { IsAnswer (record {
+          order = order;
+          columns = m;
+          coordinates = s;
+          depth = depth;
+          digits = digits.items;
+        }) result }
     {
         let wanted = s as u32 * depth as u32 * m as u32;
         let length = digits.len();

@@ -1,11 +1,12 @@
-use Rattle.std.proofs.Common.{◌≡◌, ◌+◌, ◌-◌, ◌++◌, length, get_or, ap, ◌∙◌, arith}
+use Rattle.std.proofs.Common.{◌≡◌, ◌+◌, ◌-◌, ◌++◌, get_or, ap, ◌∙◌, arith}
 use Rattle.mt_system.specs.Rows.{row_of, first_rows}
 use Rattle.mt_strength.specs.Dependence.{lists_of}
-use Rattle.mt_strength.proofs.RowLemmas.{AllAtMost-at, rows_more}
+use Rattle.mt_strength.proofs.RowLemmas.{rows_more}
+use Rattle.mt_system.proofs.ChoiceOrder.{AllAtMost-at}
 use Rattle.mt_strength.proofs.choice_rows.Goals as goal
 
 pub push_rows-requires-clause-few : goal.push_rows-requires-clause-few
-push_rows-requires-clause-few c = rw c.sizes-sizes.ensures.value (AllAtMost-at c.args.system.now.depth c.args.choice.now c.loop-i.i c.requires.choice.at_most (omega (arith, ap length c.sizes-sizes.ensures.value)))
+push_rows-requires-clause-few c = rw c.sizes-sizes.ensures.value (AllAtMost-at c.args.system.now.depth c.args.choice.now c.loop-i.i c.requires.choice.at_most)
 
 pub loop-i-preserved : goal.loop-i-preserved
 loop-i-preserved c =
