@@ -7,7 +7,8 @@ use Rattle.mt_linear.specs.declared.Order.{Order}
 use Rattle.mt_linear.specs.declared.Order.TheVariants.{Q2, Q3}
 use Rattle.mt_linear.specs.Field.{number_of}
 use Rattle.mt_linear.proofs.FieldLaws.{all_below-at}
-use Rattle.mint.specs.First.{Claim, IsReadable, name_characters, spaced, rows_text, header_numbers, canonical_text}
+use Rattle.mt_system.specs.Claims.{name_characters}
+use Rattle.mint.specs.First.{Claim, IsReadable, spaced, rows_text, header_numbers, canonical_text}
 use Rattle.mint.specs.FirstParts.{IsSpaced, IsHeader, IsWithin, IsRowsOf}
 use Rattle.mint.proofs.NumberTexts.{spaced_unique, line_unique}
 

@@ -2,6 +2,7 @@
 use Rattle.std.specs.Prelude.{◌≡◌, ◌≢◌, ℕ, zero, suc, ◌+◌, ◌*◌, ◌<◌, ◌≤◌, List, [], ◌∷◌, ◌++◌, length, map, take, drop, codes, decimal, All, Contains, Option, MatchOption}
 use Rattle.mt_linear.specs.Field.{number_of}
 use Rattle.mt_system.specs.Rows.{Matrices, IsSystem}
+use Rattle.mt_system.specs.Claims.{IsName}
 use Rattle.mt_system.specs.Counts.{number_of_choices}
 use Rattle.mint.specs.declared.first.FirstClaim.{FirstClaim}
 
@@ -10,15 +11,6 @@ pub record Claim : Type 0 where
   pub name : List ℕ
   pub k : ℕ
   pub system : Matrices
-
--- the characters of a name
-abbrev pub name_characters : List ℕ
-name_characters = codes "abcdefghijklmnopqrstuvwxyz0123456789-_."
-
-pub record IsName (name : List ℕ) : Type 0 where
-  pub some : 0 < length name
-  pub few : length name ≤ 40
-  pub characters : All (λ b. Contains name_characters b) name
 
 -- a claim that this reader takes
 pub record IsReadable (c : Claim) : Type 0 where

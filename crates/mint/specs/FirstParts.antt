@@ -4,7 +4,8 @@ use Rattle.mt_linear.specs.declared.Order.{Order}
 use Rattle.mt_linear.specs.Field.{number_of}
 use Rattle.mt_system.specs.Rows.{Matrices, IsSystem}
 use Rattle.mt_system.specs.Counts.{number_of_choices}
-use Rattle.mint.specs.First.{IsName, spaced, rows_text}
+use Rattle.mt_system.specs.Claims.{IsName}
+use Rattle.mint.specs.First.{spaced, rows_text}
 
 -- five numbers below 100, each with a space behind it, stand before the rest
 pub record IsSpaced (text numbers rest : List ℕ) : Type 0 where

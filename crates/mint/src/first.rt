@@ -2,14 +2,13 @@
 ghost use Rattle.std.specs.Prelude.{◌≡◌, ◌≢◌, ◌↔◌, ℕ, ◌+◌, ◌-◌, ◌<◌, ◌≤◌, List, ◌∷◌, ◌++◌, map, length, slice_index, take, drop, decimal, All, Contains, IsTrue, IfOk, MatchOption};
 ghost use Rattle.mt_linear.specs.declared.Order.{Order};
 ghost use Rattle.mt_system.specs.Rows.{Matrices};
-ghost use Rattle.mint.specs.First.{IsName, IsReading, name_characters};
+ghost use Rattle.mt_system.specs.Claims.{IsName};
+ghost use Rattle.mint.specs.First.{IsReading};
 ghost use Rattle.mint.specs.FirstParts.{IsSpaced, IsHeader, IsWithin, StartsWithRow, IsRows, IsRowsOf};
 
 use mt_linear::Order;
-use mt_system::{System, count_choices};
+use mt_system::{Name, System, count_choices};
 use std::alloc::{AllocError, Global};
-
-const NAME_CHARACTERS: &[u8] = b"abcdefghijklmnopqrstuvwxyz0123456789-_.";
 
 /// What a canonical text claims: that the system of this name has strength `k`.
 #[derive(Drop)]
@@ -133,24 +132,7 @@ fn checked_order(header: &Header) -> Option<Order>
 fn is_name(name: &[u8]) -> bool
     ensures { IsTrue result ↔ IsName name.now }
 {
-    !name.is_empty() && name.len() <= 40 && are_name_characters(name)
-}
-
-fn are_name_characters(name: &[u8]) -> bool
-    ensures { IsTrue result ↔ All (λ b. Contains name_characters b) name.now }
-{
-    for byte in name {
-        if !is_name_character(*byte) {
-            return false;
-        }
-    }
-    true
-}
-
-fn is_name_character(byte: u8) -> bool
-    ensures { IsTrue result ↔ Contains name_characters byte }
-{
-    NAME_CHARACTERS.contains(&byte)
+    Name::of(name).is_some()
 }
 
 // The system of these sizes whose rows these are.

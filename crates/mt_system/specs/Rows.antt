@@ -1,5 +1,5 @@
 -- What contracts see of a `System`, and the rows of a choice.
-use Rattle.std.specs.Prelude.{◌≡◌, ℕ, zero, suc, ◌+◌, ◌*◌, ◌≤◌, List, [], ◌∷◌, ◌++◌, length, take, drop, sum}
+use Rattle.std.specs.Prelude.{◌≡◌, ℕ, zero, suc, ◌+◌, ◌-◌, ◌*◌, ◌≤◌, List, [], ◌∷◌, ◌++◌, length, take, drop, sum}
 use Rattle.mt_linear.specs.declared.Order.{Order}
 use Rattle.mt_linear.specs.Linear.{AllElements, Independent}
 use Rattle.mt_system.specs.Choices.{IsChoice}
@@ -36,3 +36,15 @@ rows_of a c = rows_by (row_of a) c
 -- every choice of at most k rows is independent
 abbrev pub Strength : Matrices → ℕ → Type 0
 Strength a k = (c : List ℕ) → IsChoice a.coordinates a.depth c → sum c ≤ k → Independent a.order (rows_of a c)
+
+-- the first n digits of the rows
+abbrev pub part_rows : Matrices → ℕ → ℕ → ℕ → List ℕ
+part_rows a n i j = take n (row_of a i j)
+
+-- the first n digits of the first n rows of each coordinate have strength k
+abbrev pub PartStrength : Matrices → ℕ → ℕ → Type 0
+PartStrength a n k = (c : List ℕ) → IsChoice a.coordinates n c → sum c ≤ k → Independent a.order (rows_by (part_rows a n) c)
+
+-- each part n of a system of depth m = a.columns has strength n - t, where t = m - u (Niederreiter's digital (t,s)-sequence, up to m)
+abbrev pub SequenceStrength : Matrices → ℕ → Type 0
+SequenceStrength a u = (n : ℕ) → n ≤ a.columns → PartStrength a n (n - (a.columns - u))

@@ -1,36 +1,16 @@
-use Rattle.std.proofs.Common.{replicate, ap, ◌∙◌}
-use Rattle.mt_linear.specs.Linear.{Independent}
-use Rattle.mt_strength.specs.Dependence.{lists_of}
-use Rattle.mt_strength.proofs.RowLemmas.{front_rows, independent_rows, dependent_rows, Passed-start, Passed-next, Strength-last, rank_falls}
+use Rattle.std.proofs.Common.{◌≡◌, ℕ, Result, Ok, Err, IfOk, subst}
+use Rattle.mt_system.specs.Rows.{Matrices, rows_by, part_rows}
+use Rattle.mt_strength.specs.declared.Verdict.{Verdict}
+use Rattle.mt_strength.specs.Verdicts.{IsVerdict, IsVerdictAmong}
+use Rattle.mt_strength.proofs.RowLemmas.{IsVerdict-whole}
 use Rattle.mt_strength.proofs.check.Goals as goal
 
-pub loop-choice-init : goal.loop-choice-init
-loop-choice-init c =
-    Passed-start c.args.system.now c.args.k c.in_ok-choice.choice (c.in_ok-choice.ensures ∙ ap (λ n. replicate n 0) c.s.ensures)
+whole : {E : Type 0} (a : Matrices) (k width depth : ℕ) (r : Result Verdict E) → width ≡ a.columns → depth ≡ a.depth
+    → IfOk r (IsVerdictAmong a.order a.coordinates depth k (rows_by (part_rows a width))) → IfOk r (IsVerdict a k)
+whole a k width depth (Ok v) is_width is_depth h =
+    IsVerdict-whole a k v (subst (λ n. IsVerdictAmong a.order a.coordinates a.depth k (rows_by (part_rows a n)) v) is_width
+    (subst (λ n. IsVerdictAmong a.order a.coordinates n k (rows_by (part_rows a width)) v) is_depth h))
+whole a k width depth (Err e) is_width is_depth h = h
 
-pub dependence-requires-clause-front : goal.dependence-requires-clause-front
-dependence-requires-clause-front c =
-    let p = c.loop-choice.invariant in
-    front_rows c.args.system.now c.args.k c.loop-choice.choice c.order.result c.in_ok-rows.rows.items c.deref.result.now c.order.ensures c.deref.ensures.value c.in_ok-rows.ensures.rows
-    p.choice p.size p.earlier
-
-pub returns-in-Some : goal.returns-in-Some
-returns-in-Some c =
-    dependent_rows c.args.system.now c.args.k c.loop-choice.choice c.order.result c.in_ok-rows.rows.items c.deref.result.now c.in-Some.coefficients
-    c.order.ensures c.deref.ensures.value c.in_ok-rows.ensures.rows c.loop-choice.invariant (rw c.in-Some.is at c.in_ok-coefficients.ensures.independent)
-
-pub returns-then-not-next_choice : goal.returns-then-not-next_choice
-returns-then-not-next_choice c =
-    let independent : Independent c.order.result (lists_of c.deref.result.now) = rw c.in_default.is at c.in_ok-coefficients.ensures.independent in
-    Strength-last c.args.system.now c.args.k c.loop-choice.choice c.depth.result c.depth.ensures c.loop-choice.invariant c.if-not-next_choice.ensures.last
-    (independent_rows c.args.system.now c.loop-choice.choice c.order.result c.in_ok-rows.rows.items c.deref.result.now c.order.ensures c.deref.ensures.value c.in_ok-rows.ensures.rows independent)
-
-pub loop-choice-smaller : goal.loop-choice-smaller
-loop-choice-smaller c =
-    rank_falls c.args.system.now c.args.k c.loop-choice.choice c.next_choice.new.choice c.depth.result c.depth.ensures c.loop-choice.invariant c.if-not-next_choice.ensures.next
-
-pub loop-choice-preserved : goal.loop-choice-preserved
-loop-choice-preserved c =
-    let independent : Independent c.order.result (lists_of c.deref.result.now) = rw c.in_default.is at c.in_ok-coefficients.ensures.independent in
-    Passed-next c.args.system.now c.args.k c.loop-choice.choice c.next_choice.new.choice c.depth.result c.depth.ensures c.loop-choice.invariant c.if-not-next_choice.ensures.next
-    (independent_rows c.args.system.now c.loop-choice.choice c.order.result c.in_ok-rows.rows.items c.deref.result.now c.order.ensures c.deref.ensures.value c.in_ok-rows.ensures.rows independent)
+pub returns : goal.returns
+returns c = whole c.args.system.now c.args.k c.m.result c.depth.result c.first_dependent.result c.m.ensures c.depth.ensures c.first_dependent.ensures
