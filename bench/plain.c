@@ -1,6 +1,6 @@
 /* Read one import text on standard input, check its strength by elimination
    and backtracking, and print the line that mint prints. A measure for mint:
-   arguments are ignored, and every form and order is read.
+   arguments are ignored.
 
    The walk goes through the choices as lists, by the next coordinate that gives
    rows. With each front of rows goes a copy of all rows that may follow, less
@@ -11,7 +11,8 @@
 #include <stdlib.h>
 #include <string.h>
 
-enum { MOST_DIGITS = 16, MOST_COORDINATES = 32, MOST_ORDER = 9, LONGEST = 20000 };
+enum { MOST_DIGITS = 16, MOST_COORDINATES = 32, MOST_ORDER = 9 };
+enum { MOST_BYTES = 65536, MOST_CHOICES = 500000 };
 
 static int order, digits, coordinates, depth;
 static uint8_t matrix[MOST_COORDINATES][MOST_DIGITS][MOST_DIGITS];
@@ -225,7 +226,7 @@ DEFINE_WALK(binary)
 DEFINE_WALK(ternary)
 DEFINE_WALK(general)
 
-/* Whether the strength holds for the present digits and depth. */
+/* Whether a strength holds for the present digits and depth. */
 static int holds(int strength)
 {
     found_size = 0;
@@ -267,7 +268,7 @@ static void print_found(void)
             for (place = 0; place < width; place++)
                 vector[place] = product[scale][vector[place]];
         }
-    printf("refused: choice ");
+    printf("choice ");
     for (int at = 0; at < coordinates; at++)
         printf("%s%d", at ? "," : "", found[at]);
     printf(" depends with ");
@@ -276,68 +277,197 @@ static void print_found(void)
     putchar('\n');
 }
 
-static int unreadable(void)
+/* The number of choices, which is summed over the parts for a sequence. */
+static uint64_t count_choices(int is_sequence, int strength)
 {
-    fputs("plain: not an import text\n", stderr);
-    return 2;
+    uint64_t counts[MOST_DIGITS + 1] = {1}, all[MOST_DIGITS + 1], total = 0;
+    for (int at = 0; at < coordinates; at++)
+        for (int size = strength; size >= 0; size--)
+            for (int rows = 1; rows <= lesser(depth, size); rows++)
+                counts[size] += counts[size - rows];
+    for (int size = 0; size <= strength; size++) {
+        all[size] = counts[size] + (size ? all[size - 1] : 0);
+        total += size ? all[size] : 0;
+    }
+    return is_sequence ? total : all[strength];
+}
+
+/* ---- the text ---- */
+
+static char text[MOST_BYTES + 1];
+static const char *unread = text, *text_end;
+static int line_number;
+
+/* Part of a line; a line is without its end. */
+typedef struct { const char *start, *end; } piece;
+
+static int next_line(piece *line)
+{
+    line_number++;
+    if (unread == text_end)
+        return 0;
+    const char *feed = memchr(unread, '\n', text_end - unread);
+    line->start = unread;
+    line->end = feed ? feed : text_end;
+    unread = feed ? feed + 1 : text_end;
+    if (line->end > line->start && line->end[-1] == '\r')
+        line->end--;
+    return 1;
+}
+
+static int is_blank(char byte) { return byte == ' ' || byte == '\t'; }
+
+/* The next word of a line, which is empty where there is none. */
+static piece next_word(piece *line)
+{
+    piece word;
+    while (line->start < line->end && is_blank(*line->start))
+        line->start++;
+    word.start = line->start;
+    while (line->start < line->end && !is_blank(*line->start))
+        line->start++;
+    word.end = line->start;
+    return word;
+}
+
+static int is_word(piece word, const char *other)
+{
+    size_t length = strlen(other);
+    return (size_t)(word.end - word.start) == length && memcmp(word.start, other, length) == 0;
+}
+
+/* A number below 1000, or -1. */
+static int number_of(piece word)
+{
+    int length = word.end - word.start, number = 0;
+    if (length < 1 || length > 3 || (length > 1 && *word.start == '0'))
+        return -1;
+    for (; word.start < word.end; word.start++) {
+        if (*word.start < '0' || *word.start > '9')
+            return -1;
+        number = 10 * number + *word.start - '0';
+    }
+    return number;
+}
+
+static int is_name(piece word)
+{
+    if (word.end == word.start || word.end - word.start > 40)
+        return 0;
+    for (; word.start < word.end; word.start++)
+        if (!(*word.start >= 'a' && *word.start <= 'z')
+            && !(*word.start >= '0' && *word.start <= '9')
+            && *word.start != '-' && *word.start != '_' && *word.start != '.')
+            return 0;
+    return 1;
+}
+
+static piece form, name;
+static int strength;
+
+static int read_header(void)
+{
+    piece line;
+    int numbers[5] = {0};
+    if (!next_line(&line))
+        return 0;
+    form = next_word(&line);
+    int is_array = is_word(form, "ooa");
+    if (!is_array && !is_word(form, "net") && !is_word(form, "seq"))
+        return 0;
+    for (int place = 0; place < 4 + is_array; place++) {
+        numbers[place] = number_of(next_word(&line));
+        if (numbers[place] < 0)
+            return 0;
+    }
+    name = next_word(&line);
+    piece rest = next_word(&line);
+    order = numbers[0];
+    digits = numbers[1];
+    coordinates = numbers[2];
+    depth = is_array ? numbers[3] : digits;
+    strength = is_array ? numbers[4] : digits - numbers[3];
+    return is_name(name) && rest.start == rest.end && order >= 2 && order != 6
+        && order <= MOST_ORDER && digits >= 1 && coordinates >= 1 && depth >= 1
+        && depth <= digits && strength >= 0 && strength <= digits;
+}
+
+/* Reads a row past the greatest sizes too, but keeps no digit of it. */
+static int read_row(int at, int row)
+{
+    piece line;
+    int count = 0;
+    if (!next_line(&line))
+        return 0;
+    for (; line.start < line.end; line.start++) {
+        if (is_blank(*line.start))
+            continue;
+        if (*line.start < '0' || *line.start >= '0' + order)
+            return 0;
+        if (count < MOST_DIGITS && at < MOST_COORDINATES && row < MOST_DIGITS)
+            matrix[at][row][count] = *line.start - '0';
+        count++;
+    }
+    return count == digits;
+}
+
+static int refused_line(const char *wanted)
+{
+    printf("refused: line %d is %s\n", line_number, wanted);
+    return 3;
 }
 
 int main(void)
 {
-    static char text[LONGEST + 1], form[4], name[41], header[128];
-    int claim;
-    size_t length = fread(text, 1, LONGEST, stdin);
-    int is_array = strncmp(text, "ooa ", 4) == 0;
-    if (is_array) {
-        if (sscanf(text, "%3s %d %d %d %d %d %40[a-z0-9._-]", form, &order, &digits,
-                   &coordinates, &depth, &claim, name) != 7)
-            return unreadable();
-        snprintf(header, sizeof header, "ooa %d %d %d %d %d %s\n", order, digits,
-                 coordinates, depth, claim, name);
-    } else {
-        if (sscanf(text, "%3s %d %d %d %d %40[a-z0-9._-]", form, &order, &digits,
-                   &coordinates, &claim, name) != 6)
-            return unreadable();
-        if (strcmp(form, "net") != 0 && strcmp(form, "seq") != 0)
-            return unreadable();
-        snprintf(header, sizeof header, "%s %d %d %d %d %s\n", form, order, digits,
-                 coordinates, claim, name);
-        depth = digits;
+    piece line;
+    text_end = text + fread(text, 1, sizeof text, stdin);
+    if (text_end - text > MOST_BYTES) {
+        printf("refused: more than %d bytes\n", MOST_BYTES);
+        return 3;
     }
-    if (strncmp(text, header, strlen(header)) != 0 || order < 2 || order == 6
-        || order > MOST_ORDER || digits < 1 || digits > MOST_DIGITS || coordinates < 1
-        || coordinates > MOST_COORDINATES || depth < 1 || depth > digits || claim < 0
-        || claim > digits)
-        return unreadable();
-    const char *read = text + strlen(header);
-    if (length != (size_t)(read - text) + (size_t)coordinates * depth * (digits + 1))
-        return unreadable();
+    if (!read_header())
+        return refused_line("no header");
     for (int at = 0; at < coordinates; at++)
-        for (int row = 0; row < depth; row++) {
-            for (int place = 0; place < digits; place++, read++) {
-                if (*read < '0' || *read >= '0' + order)
-                    return unreadable();
-                matrix[at][row][place] = *read - '0';
-            }
-            if (*read++ != '\n')
-                return unreadable();
-        }
+        for (int row = 0; row < depth; row++)
+            if (!read_row(at, row))
+                return refused_line("no row");
+    while (next_line(&line)) {
+        piece word = next_word(&line);
+        if (word.start < word.end)
+            return refused_line("not blank");
+    }
+    if (digits > MOST_DIGITS) {
+        printf("refused: m %d is over %d\n", digits, MOST_DIGITS);
+        return 3;
+    }
+    if (coordinates > MOST_COORDINATES) {
+        printf("refused: s %d is over %d\n", coordinates, MOST_COORDINATES);
+        return 3;
+    }
+    int is_sequence = is_word(form, "seq");
+    uint64_t choices = count_choices(is_sequence, strength);
+    if (choices > MOST_CHOICES) {
+        printf("refused: %llu choices, more than %d\n", (unsigned long long)choices,
+               MOST_CHOICES);
+        return 3;
+    }
     make_field();
 
     int good = 1;
-    if (is_array)
-        good = holds(claim);
-    else if (strcmp(form, "net") == 0)
-        good = holds(digits - claim);
+    if (!is_sequence)
+        good = holds(strength);
     else
-        for (int whole = digits, size = claim + 1; good && size <= whole; size++) {
+        for (int whole = digits, size = whole - strength + 1; good && size <= whole; size++) {
             digits = depth = size;
-            good = holds(size - claim);
+            good = holds(size - (whole - strength));
         }
     if (!good) {
+        printf("refused: ");
+        if (is_sequence)
+            printf("part %d ", digits);
         print_found();
         return 3;
     }
-    printf("holds %s\n", name);
+    printf("holds %.*s\n", (int)(name.end - name.start), name.start);
     return 0;
 }

@@ -9,6 +9,7 @@ make.py --verify   confirm every expected answer by elimination; status 1 on a d
 import itertools
 import math
 import os
+import re
 import sys
 
 # ---------------------------------------------------------------- fields
@@ -257,50 +258,146 @@ def first_rows(coordinates, depth):
     return [rows[:depth] for rows in coordinates]
 
 
+# ---------------------------------------------------------------- import texts
+
+NUMBER = re.compile('0|[1-9][0-9]{0,2}')
+NAME = re.compile('[a-z0-9_.-]{1,40}')
+MOST_DIGITS, MOST_COORDINATES, MOST_BYTES, MOST_CHOICES = 16, 32, 65536, 500000
+
+
+class Refused(Exception):
+    """Why a text is refused before its strength is looked at."""
+
+
+class Claim:
+    """What the words of a header say; `strength` is k, which is m - t for `net` and `seq`."""
+
+    def __init__(self, words):
+        self.form, self.name = (words[0], words[-1]) if words else ('', '')
+        if len(words) != {'ooa': 7, 'net': 6, 'seq': 6}.get(self.form) \
+                or not all(map(NUMBER.fullmatch, words[1:-1])) or not NAME.fullmatch(self.name):
+            raise Refused('line 1 is no header')
+        numbers = [int(word) for word in words[1:-1]]
+        self.order, self.digits, self.count = numbers[:3]
+        self.depth = numbers[3] if self.form == 'ooa' else self.digits
+        self.strength = numbers[4] if self.form == 'ooa' else self.digits - numbers[3]
+        self.coordinates = None
+        if self.order not in (2, 3, 4, 5, 7, 8, 9) or self.count < 1 \
+                or not 1 <= self.depth <= self.digits or not 0 <= self.strength <= self.digits:
+            raise Refused('line 1 is no header')
+
+    def choices(self):
+        """The number of choices, which is summed over the parts for `seq`."""
+        counts = [1] + [0] * self.strength
+        for _ in range(self.count):
+            counts = [sum(counts[max(0, size - self.depth):size + 1])
+                      for size in range(self.strength + 1)]
+        if self.form != 'seq':
+            return sum(counts)
+        return sum(sum(counts[:size + 1]) for size in range(1, self.strength + 1))
+
+    def check_choices(self):
+        if self.choices() > MOST_CHOICES:
+            raise Refused('{} choices, more than {}'.format(self.choices(), MOST_CHOICES))
+
+    def check_sizes(self):
+        for letter, size, most in (('m', self.digits, MOST_DIGITS),
+                                   ('s', self.count, MOST_COORDINATES)):
+            if size > most:
+                raise Refused('{} {} is over {}'.format(letter, size, most))
+
+
+def lines_of(text):
+    pieces = text.split('\n')
+    if not pieces[-1]:
+        pieces.pop()
+    return [piece.removesuffix('\r') for piece in pieces]
+
+
+def words_of(line):
+    return [word for word in re.split('[ \t]', line) if word]
+
+
+def read(text):
+    """The claim of an import text, with its coordinates."""
+    if len(text) > MOST_BYTES:
+        raise Refused('more than {} bytes'.format(MOST_BYTES))
+    lines = lines_of(text)
+    claim = Claim(words_of(lines[0] if lines else ''))
+    row_of = re.compile('[0-{}]{{{}}}'.format(claim.order - 1, claim.digits))
+    rows, end = [], claim.count * claim.depth + 1
+    for number in range(1, end):
+        row = ''.join(words_of(lines[number])) if number < len(lines) else ''
+        if not row_of.fullmatch(row):
+            raise Refused('line {} is no row'.format(number + 1))
+        rows.append([int(digit) for digit in row])
+    for number in range(end, len(lines)):
+        if words_of(lines[number]):
+            raise Refused('line {} is not blank'.format(number + 1))
+    claim.coordinates = [rows[start:start + claim.depth]
+                         for start in range(0, len(rows), claim.depth)]
+    return claim
+
+
 # ---------------------------------------------------------------- the examples
 
 
 class Example:
-    """A text with the answer expected; `greatest` says that no more strength holds."""
+    """A text with the answer expected.
 
-    def __init__(self, header, coordinates, answer=None, greatest=False):
-        words = header.split()
-        self.header, self.form, self.name = header, words[0], words[-1]
-        numbers = [int(word) for word in words[1:-1]]
-        self.order, self.digits, count = numbers[:3]
-        self.depth = numbers[3] if self.form == 'ooa' else self.digits
-        self.claim = numbers[-1]
-        self.strength = self.claim if self.form == 'ooa' else self.digits - self.claim
-        self.coordinates = coordinates
-        self.answer = answer or 'holds ' + self.name
+    `greatest` says that the strength holds and no more does; `spelled` changes the text.
+    """
+
+    def __init__(self, header, coordinates, answer=None, greatest=False, spelled=None):
+        self.claim = Claim(header.split())
+        self.claim.coordinates = coordinates
+        self.file = self.claim.name + '.txt'
+        rows = itertools.chain.from_iterable(coordinates)
+        self.text = '\n'.join([header, *(''.join(map(str, row)) for row in rows), ''])
+        assert read(self.text).coordinates == coordinates, header
+        if spelled:
+            self.text = spelled(self.text)
+        self.answer = answer or 'holds ' + self.claim.name
         self.greatest = greatest
-        self.file = self.name + '.txt'
-        assert len(coordinates) == count, header
-        for rows in coordinates:
-            assert len(rows) == self.depth, header
-            for row in rows:
-                assert len(row) == self.digits and max(row) < self.order, header
-
-    def text(self):
-        rows = itertools.chain.from_iterable(self.coordinates)
-        return '\n'.join([self.header, *(''.join(map(str, row)) for row in rows), ''])
-
-    def choices(self):
-        """The number of choices of size at most the strength."""
-        counts = [1] + [0] * self.strength
-        for _ in self.coordinates:
-            counts = [sum(counts[max(0, size - self.depth):size + 1])
-                      for size in range(self.strength + 1)]
-        return sum(counts)
+        try:
+            self.claim.check_choices()
+        except Refused as reason:
+            self.answer = refused(reason)
 
     def expected(self):
         status = 0 if self.answer.startswith('holds') else 3
-        now = self.form == 'ooa' and self.order in (2, 3) and self.choices() <= 500000
-        return '\t'.join([self.file, str(status), self.answer, 'now' if now else 'later'])
+        return '\t'.join([self.file, str(status), self.answer])
 
 
-def refused(choice, combination):
-    return 'refused: choice {} depends with {}'.format(choice, combination)
+def refused(reason):
+    return 'refused: {}'.format(reason)
+
+
+def dependent(choice, combination, part=None):
+    start = '' if part is None else 'part {} '.format(part)
+    return refused('{}choice {} depends with {}'.format(start, choice, combination))
+
+
+def replaced(line, old, new):
+    """Puts new text where the old one stands, once, on a line counted from 1."""
+    def spelled(text):
+        lines = text.split('\n')
+        assert lines[line - 1].count(old) == 1
+        lines[line - 1] = lines[line - 1].replace(old, new)
+        return '\n'.join(lines)
+    return spelled
+
+
+def with_blanks(text):
+    """More blanks between the words of the header, and some between the digits of the rows."""
+    header, *rows = text.splitlines()
+    rows = [' \t'[number % 2].join(row) + '  ' * (number % 3) for number, row in enumerate(rows)]
+    return '\n'.join(['  ' + header.replace(' ', '\t ') + ' ', *rows, ''])
+
+
+def with_returns(text):
+    """A carriage return before each line feed, and blank lines, the last without a line feed."""
+    return text.replace('\n', '\r\n') + '\r\n \t\r\n  '
 
 
 def examples():
@@ -311,14 +408,14 @@ def examples():
     return [
         Example('ooa 2 11 23 1 6 golay', golay(two, 23, 11), greatest=True),
         Example('ooa 2 11 23 1 7 golay-seven', golay(two, 23, 11),
-                refused('0,0,0,0,0,0,0,0,0,0,0,1,1,0,0,0,1,1,1,0,1,0,1', '1,1,1,1,1,1,1')),
+                dependent('0,0,0,0,0,0,0,0,0,0,0,1,1,0,0,0,1,1,1,0,1,0,1', '1,1,1,1,1,1,1')),
         Example('ooa 2 12 24 1 7 extended-golay', extended_golay(), greatest=True),
         Example('ooa 3 5 11 1 4 ternary-golay', golay(three, 11, 5), greatest=True),
         Example('ooa 3 5 11 1 5 ternary-golay-five', golay(three, 11, 5),
-                refused('0,0,0,0,0,1,1,1,1,0,1', '2,2,1,2,1')),
+                dependent('0,0,0,0,0,1,1,1,1,0,1', '2,2,1,2,1')),
         Example('ooa 2 4 15 1 2 hamming', hamming(two, 4), greatest=True),
         Example('ooa 2 4 15 1 3 hamming-three', hamming(two, 4),
-                refused('0,0,0,0,0,0,1,0,0,0,1,1,0,0,0', '1,1,1')),
+                dependent('0,0,0,0,0,0,1,0,0,0,1,1,0,0,0', '1,1,1')),
         Example('ooa 3 3 13 1 2 ternary-hamming', hamming(three, 3), greatest=True),
         Example('ooa 2 10 31 1 4 bch-double', bch(5, 2), greatest=True),
         Example('ooa 2 10 15 1 6 bch-triple', bch(4, 3), greatest=True),
@@ -326,26 +423,42 @@ def examples():
         Example('ooa 2 8 2 8 8 hammersley', with_reversed([identity(8)]), greatest=True),
         Example('ooa 2 12 4 12 11 sobol', sobol_net, greatest=True),
         Example('ooa 2 12 4 12 12 sobol-zero', sobol_net,
-                refused('0,2,1,9', '1,1,1,1,1,1,0,0,0,1,1,1')),
+                dependent('0,2,1,9', '1,1,1,1,1,1,0,0,0,1,1,1')),
         Example('ooa 2 16 7 16 8 niederreiter', with_reversed(niederreiter(two, 16, 6)),
                 greatest=True),
         Example('ooa 3 6 4 6 6 faure', with_reversed(faure(3, 6, 3)), greatest=True),
         Example('ooa 3 6 5 6 6 faure-repeated', with_reversed(faure(3, 6, 4)),
-                refused('1,0,0,1,0', '2,1')),
+                dependent('1,0,0,1,0', '2,1')),
         Example('ooa 3 6 4 3 6 rosenbloom-tsfasman',
                 first_rows(with_reversed(faure(3, 6, 3)), 3), greatest=True),
         Example('net 2 12 5 3 niederreiter-net', niederreiter_net, greatest=True),
         Example('net 2 12 5 2 niederreiter-net-two', niederreiter_net,
-                refused('1,5,1,1,2', '1,1,0,1,0,1,1,1,0,1')),
+                dependent('1,5,1,1,2', '1,1,0,1,0,1,1,1,0,1')),
         Example('seq 2 12 4 3 sobol-sequence', sobol(12, 4), greatest=True),
+        Example('seq 2 12 4 2 sobol-sequence-two', sobol(12, 4),
+                dependent('3,0,1,1', '0,0,1,1,1', 7)),
         Example('seq 3 6 3 0 faure-sequence', faure(3, 6, 3), greatest=True),
+        Example('seq 3 6 4 0 faure-sequence-repeated', faure(3, 6, 4),
+                dependent('1,0,0,1', '2,1', 2)),
         Example('ooa 4 3 6 1 3 hexacode', hexacode(), greatest=True),
         Example('net 5 4 6 0 faure-five', with_reversed(faure(5, 4, 5)), greatest=True),
         Example('seq 7 4 7 0 faure-seven', faure(7, 4, 7), greatest=True),
         Example('ooa 8 4 8 1 4 reed-solomon', reed_solomon(eight, 4), greatest=True),
         Example('ooa 8 4 10 1 4 reed-solomon-ten', reed_solomon(eight, 4) + points_at_infinity,
-                refused('0,0,0,1,0,1,1,0,0,1', '6,1,7,1')),
+                dependent('0,0,0,1,0,1,1,0,0,1', '6,1,7,1')),
         Example('seq 9 3 9 0 niederreiter-nine', niederreiter(nine, 3, 9), greatest=True),
+        Example('seq 2 16 7 0 niederreiter-zero', niederreiter(two, 16, 7)),
+        Example('seq 2 17 1 0 van-der-corput', [identity(17)], refused('m 17 is over 16')),
+        Example('ooa 2 6 33 1 2 hamming-wide', hamming(two, 6)[:33], refused('s 33 is over 32')),
+        Example('ooa 4 3 6 1 3 hexacode-blanks', hexacode(), greatest=True, spelled=with_blanks),
+        Example('net 5 4 6 0 faure-returns', with_reversed(faure(5, 4, 5)), greatest=True,
+                spelled=with_returns),
+        Example('ooa 4 3 6 1 3 hexacode-six', hexacode(), refused('line 1 is no header'),
+                spelled=replaced(1, 'ooa 4', 'ooa 6')),
+        Example('ooa 4 3 6 1 3 hexacode-digit', hexacode(), refused('line 7 is no row'),
+                spelled=replaced(7, '3', '4')),
+        Example('ooa 4 3 6 1 3 hexacode-seven', hexacode(), refused('line 8 is not blank'),
+                spelled=lambda text: text + '123\n'),
     ]
 
 
@@ -393,28 +506,48 @@ def first_dependent(field, coordinates, strength):
     return None
 
 
-def find(example, more=0):
-    """The first dependent choice if this much more strength were claimed, or None."""
-    field = field_of(example.order)
-    if example.form != 'seq':
-        return first_dependent(field, example.coordinates, example.strength + more)
-    for size in range(1, example.digits + 1):
-        corner = [[row[:size] for row in rows[:size]] for rows in example.coordinates]
-        found = first_dependent(field, corner, min(size, size - example.claim + more))
+def find(claim, more=0):
+    """The part, its first dependent choice and the combination, or None.
+
+    That is for this much more strength than claimed.
+    """
+    field = field_of(claim.order)
+    if claim.form != 'seq':
+        found = first_dependent(field, claim.coordinates, claim.strength + more)
+        return found and (None, *found)
+    least = claim.digits - claim.strength - more
+    for size in range(1, claim.digits + 1):
+        corner = [[row[:size] for row in rows[:size]] for rows in claim.coordinates]
+        found = first_dependent(field, corner, min(size, size - least))
         if found:
-            return found
+            return size, *found
     return None
 
 
+def answer_of(text):
+    try:
+        claim = read(text)
+        claim.check_sizes()
+        claim.check_choices()
+    except Refused as reason:
+        return refused(reason)
+    found = find(claim)
+    if not found:
+        return 'holds ' + claim.name
+    part, *lists = found
+    return dependent(*(','.join(map(str, numbers)) for numbers in lists), part)
+
+
 def verify(example):
-    found = find(example)
-    answer = 'holds ' + example.name
-    if found:
-        answer = refused(*(','.join(map(str, numbers)) for numbers in found))
+    answer = answer_of(example.text)
     if answer != example.answer:
         return 'finds ' + answer
-    if example.greatest and example.strength < example.digits and not find(example, 1):
-        return 'more strength holds'
+    if example.greatest:
+        claim = example.claim
+        if not answer.startswith('holds') and find(claim):
+            return 'does not hold'
+        if claim.strength < claim.digits and not find(claim, 1):
+            return 'more strength holds'
     return None
 
 
@@ -432,7 +565,7 @@ def main(arguments):
             failed |= fault is not None
             print(example.file, example.answer, fault or 'confirmed', sep=': ', flush=True)
         return int(failed)
-    texts = {example.file: example.text() for example in chosen}
+    texts = {example.file: example.text for example in chosen}
     texts['expected.txt'] = ''.join(example.expected() + '\n' for example in chosen)
     directory = os.path.dirname(os.path.abspath(__file__))
     for name, text in texts.items():

@@ -1,6 +1,4 @@
+mod CheckLemmas
 mod EndLemmas
-mod HeaderTexts
 mod InputLemmas
-mod NumberTexts
-mod RowTexts
 mod TextLemmas

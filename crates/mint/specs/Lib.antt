@@ -1,6 +1,5 @@
-pub mod First
-pub mod FirstParts
 pub mod Input
+pub mod Outcomes
 pub mod Output
 pub mod Run
 pub mod Statuses

@@ -1,21 +1,50 @@
 -- The texts that the program writes. Each ends with a line feed.
 use Rattle.std.specs.Prelude.{ℕ, List, [], ◌∷◌, ◌++◌, map, codes, decimal}
 use Rattle.std.specs.List.{join_with_byte}
+use Rattle.mt_system.specs.declared.claims.Form.{Form}
+use Rattle.mt_system.specs.declared.claims.Form.TheVariants.{Ooa, Net, Seq}
+use Rattle.mt_import.specs.declared.refusals.FormRefused.{FormRefused}
+use Rattle.mt_import.specs.declared.refusals.FormRefused.TheVariants.{TooLong, Line}
+use Rattle.mt_import.specs.declared.refusals.Wanted.{Wanted}
+use Rattle.mt_import.specs.declared.refusals.Wanted.TheVariants.{Header, Row, Blank}
+use Rattle.mint.specs.declared.checks.Part.{Part}
+use Rattle.mint.specs.declared.checks.Part.TheVariants.{M, S}
+use Rattle.mint.specs.declared.checks.Outcome.{Outcome}
+use Rattle.mint.specs.declared.checks.Outcome.TheVariants as outcome
 
 abbrev pub usage_text : List ℕ
 usage_text = codes "usage: mint STORE FEED M,S COMMAND\n"
 
-abbrev pub later_text : List ℕ
-later_text = codes "later\n"
+-- what a refused line is not
+abbrev pub wanted_text : Wanted → List ℕ
+wanted_text Header = codes " is no header\n"
+wanted_text Row = codes " is no row\n"
+wanted_text Blank = codes " is not blank\n"
 
-abbrev pub holds_text : List ℕ → List ℕ
-holds_text name = codes "holds " ++ name ++ 10 ∷ []
+abbrev pub form_text : FormRefused → List ℕ
+form_text TooLong = codes "refused: more than 65536 bytes\n"
+form_text (Line line wanted) = codes "refused: line " ++ decimal line ++ wanted_text wanted
+
+abbrev pub part_text : Part → List ℕ
+part_text M = codes "m "
+part_text S = codes "s "
 
 -- decimal numbers with commas between them
 abbrev pub listed : List ℕ → List ℕ
 listed numbers = join_with_byte 44 (map decimal numbers)
 
--- the sizes of a dependent choice, and the coefficients of its rows
-abbrev pub depends_text : List ℕ → List ℕ → List ℕ
-depends_text sizes coefficients =
-    codes "refused: choice " ++ listed sizes ++ codes " depends with " ++ listed coefficients ++ 10 ∷ []
+-- the part of a sequence that fails
+abbrev pub failing_part : Form → ℕ → List ℕ
+failing_part Ooa part = []
+failing_part Net part = []
+failing_part Seq part = codes "part " ++ decimal part ++ codes " "
+
+-- the line for what a check found
+abbrev pub outcome_text : Outcome → List ℕ
+outcome_text (outcome.Holds c) = codes "holds " ++ c.name ++ 10 ∷ []
+outcome_text (outcome.Form refused) = form_text refused
+outcome_text (outcome.Range name number limit) =
+    codes "refused: " ++ part_text name ++ decimal number ++ codes " is over " ++ decimal limit ++ 10 ∷ []
+outcome_text (outcome.TooManyChoices count) = codes "refused: " ++ decimal count ++ codes " choices, more than 500000\n"
+outcome_text (outcome.Dependent form part choice coefficients) =
+    codes "refused: " ++ failing_part form part ++ codes "choice " ++ listed choice ++ codes " depends with " ++ listed coefficients.digits ++ 10 ∷ []

@@ -3,14 +3,13 @@ ghost use Rattle.std.specs.Prelude.{◌≡◌, ◌≢◌, ◌↔◌, ◌⊎◌, 
 ghost use Rattle.mt_io.specs.Faults.{Rose};
 ghost use Rattle.mint.specs.Input.{IsInput, TakesAtMost};
 ghost use Rattle.mint.specs.Output.{Wrote, WroteFront};
-ghost use Rattle.mint.specs.Run.{check_words, IsCheck, IsEnd};
+ghost use Rattle.mint.specs.Run.{check_words, outcome_status, IsCheck, IsEnd};
 
-use crate::first;
+use crate::checks::{Outcome, check_text};
 use crate::input::{InputRefused, read_input};
 use crate::status::Status;
-use crate::texts::{LATER, USAGE, depends, holds};
+use crate::texts::{USAGE, outcome_line};
 use mt_io::{Failed, Sink, Source};
-use mt_strength::{Verdict, check};
 use std::alloc::{AllocError, Global};
 
 // One more byte than a text may have.
@@ -86,31 +85,23 @@ fn checked_input<R: Source>(alloc: Global, input: &mut R) -> Result<Answer, Inpu
 fn checked_text(alloc: Global, text: &[u8]) -> Result<Answer, AllocError>
     ensures { IfOk result (λ a. IsCheck text.now a.status a.text.items) }
 {
-    let Some(claim) = first::read(alloc, text)? else {
-        let text = Vec::from_slice(alloc, LATER)?;
-        return Ok(Answer {
-            status: Status::Later,
-            text,
-        });
-    };
-    match check(alloc, &claim.system, claim.k)? {
-        Verdict::Holds => {
-            let text = holds(alloc, &claim.name)?;
-            Ok(Answer {
-                status: Status::Ok,
-                text,
-            })
-        }
-        Verdict::Dependent {
-            choice,
-            coefficients,
-        } => {
-            let text = depends(alloc, choice.sizes(), coefficients.digits())?;
-            Ok(Answer {
-                status: Status::Refused,
-                text,
-            })
-        }
+    let found = check_text(alloc, 16, 32, text)?;
+    let text = outcome_line(alloc, &found)?;
+    Ok(Answer {
+        status: status_of(&found),
+        text,
+    })
+}
+
+fn status_of(found: &Outcome) -> Status
+    ensures { result ≡ outcome_status found.now }
+{
+    match found {
+        Outcome::Holds(_) => Status::Ok,
+        Outcome::Form(_)
+        | Outcome::Range { .. }
+        | Outcome::TooManyChoices { .. }
+        | Outcome::Dependent { .. } => Status::Refused,
     }
 }
 

@@ -1,8 +1,8 @@
 //! mint: a parameter server for digital nets.
 #![tactic(auto)]
 
+mod checks;
 mod command;
-mod first;
 mod input;
 mod status;
 #[cfg(test)]

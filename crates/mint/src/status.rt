@@ -11,14 +11,12 @@ pub enum Status {
     Memory,
     /// The words are no command.
     Words,
-    /// The text is refused.
+    /// The text or its claim is refused.
     Refused,
     /// The input failed. Nothing was written.
     ReadFault,
     /// The output failed. A front of the text was written.
     WriteFault,
-    /// The text is none that the program reads so far.
-    Later,
 }
 
 impl Status {
@@ -33,7 +31,6 @@ impl Status {
             Status::Refused => 3,
             Status::ReadFault => 4,
             Status::WriteFault => 5,
-            Status::Later => 10,
         }
     }
 }

@@ -35,6 +35,17 @@ fn run(
     Ok((status, Vec::from_slice(alloc, output.bytes())?))
 }
 
+// A text of parts, each repeated so many times.
+fn text_of(alloc: Global, parts: &[(&[u8], usize)]) -> Result<Vec<u8>, AllocError> {
+    let mut text = Vec::new(alloc);
+    for (part, times) in parts {
+        for _ in 0..*times {
+            text.extend_from_slice(part)?;
+        }
+    }
+    Ok(text)
+}
+
 #[test]
 fn texts_get_their_answers(rt: HostRuntime) -> Result<(), Fail> {
     for (text, status, output) in [
@@ -49,29 +60,24 @@ fn texts_get_their_answers(rt: HostRuntime) -> Result<(), Fail> {
             Status::Refused,
             b"refused: choice 1,1 depends with 2,1\n",
         ),
-        (b"", Status::Later, b"later\n"),
-        (b"ooa 2 2 1 1 2 one\n10\n\n", Status::Later, b"later\n"),
-        (b"ooa 2 2 1 1 2 one\r\n10\r\n", Status::Later, b"later\n"),
-        (b"ooa 4 2 1 1 2 one\n10\n", Status::Later, b"later\n"),
-        (b"net 2 2 1 0 one\n10\n01\n", Status::Later, b"later\n"),
+        (
+            b"seq 2 2 2 0 twice\n10\n01\n10\n01\n",
+            Status::Refused,
+            b"refused: part 2 choice 1,1 depends with 1,1\n",
+        ),
+        (b"seq 2 2 1 0 whole\n10\n01\n", Status::Ok, b"holds whole\n"),
+        (
+            b"ooa 9 2 2 1 2 nine\n14\n28\n",
+            Status::Refused,
+            b"refused: choice 1,1 depends with 1,1\n",
+        ),
+        (b"", Status::Refused, b"refused: line 1 is no header\n"),
     ] {
         for piece in [1usize, 7, 65537] {
             let answer = run(rt.alloc(), &["16,32", "check"], text, piece)?;
             assert_eq!(rt; answer.0, status, "in pieces of {piece}");
             assert_eq!(rt; answer.1.as_slice(), output);
         }
-    }
-    Ok(())
-}
-
-#[test]
-fn longest_texts_are_later(rt: HostRuntime) -> Result<(), Fail> {
-    for size in [65536usize, 65537, 70000] {
-        let mut text = Vec::from_slice(rt.alloc(), ONE)?;
-        text.resize(size, b'\n')?;
-        let answer = run(rt.alloc(), &["16,32", "check"], &text, 4096)?;
-        assert_eq!(rt; answer.0, Status::Later);
-        assert_eq!(rt; answer.1.as_slice(), b"later\n".as_slice());
     }
     Ok(())
 }
@@ -126,6 +132,115 @@ fn failing_output_has_a_front(rt: HostRuntime) -> Result<(), Fail> {
             Status::WriteFault
         );
         assert_eq!(rt; output.bytes(), front);
+    }
+    Ok(())
+}
+
+// Texts that a hostile user may send, each as parts that are repeated, with the one line that the
+// grammar gives it.
+#[test]
+fn hostile_texts_get_their_lines(rt: HostRuntime) -> Result<(), Fail> {
+    let cases: [(&[(&[u8], usize)], &[u8]); 29] = [
+        (&[(ONE, 1), (b"\n", 65515)], b"holds one\n"),
+        (
+            &[(ONE, 1), (b"\n", 65516)],
+            b"refused: more than 65536 bytes\n",
+        ),
+        (&[(b"\n", 70000)], b"refused: more than 65536 bytes\n"),
+        (&[(b"\n", 65536)], b"refused: line 1 is no header\n"),
+        (&[(b"\r", 3)], b"refused: line 1 is no header\n"),
+        (&[(b"\0", 100)], b"refused: line 1 is no header\n"),
+        (&[(b" ", 60000)], b"refused: line 1 is no header\n"),
+        (
+            &[(b"ooa", 1), (b" ", 60000), (b"2 2 1 1 2 one\n10\n", 1)],
+            b"holds one\n",
+        ),
+        (
+            &[(b"ooa 2 2 000 1 2 one\n10\n", 1)],
+            b"refused: line 1 is no header\n",
+        ),
+        (
+            &[(b"ooa 2 2 01 1 2 one\n10\n", 1)],
+            b"refused: line 1 is no header\n",
+        ),
+        (
+            &[(b"ooa 2 2 0 1 2 one\n10\n", 1)],
+            b"refused: line 1 is no header\n",
+        ),
+        (
+            &[(b"ooa 2 999 1 1 2 big\n", 1), (b"1", 999)],
+            b"refused: m 255 is over 16\n",
+        ),
+        (
+            &[(b"ooa 2 999 1 1 2 big\n", 1), (b"1", 998)],
+            b"refused: line 2 is no row\n",
+        ),
+        (
+            &[(b"ooa 2 1000 1 1 2 big\n", 1), (b"1", 1000)],
+            b"refused: line 1 is no header\n",
+        ),
+        (
+            &[(b"ooa 2 2 300 1 0 wide\n", 1), (b"10\n", 300)],
+            b"refused: s 255 is over 32\n",
+        ),
+        (
+            &[(b"ooa 2 2 33 1 0 wide\n", 1), (b"10\n", 33)],
+            b"refused: s 33 is over 32\n",
+        ),
+        (
+            &[(b"ooa 2 2 1 1 2 ", 1), (b"n", 41), (b"\n10\n", 1)],
+            b"refused: line 1 is no header\n",
+        ),
+        (
+            &[(b"ooa 2 2 1 3 2 deep\n10\n01\n11\n", 1)],
+            b"refused: line 1 is no header\n",
+        ),
+        (&[(b"ooa 2 2 1 1 2 one\n\t1\t0 \n", 1)], b"holds one\n"),
+        (
+            &[(b"ooa 9 2 1 1 2 one\n19\n", 1)],
+            b"refused: line 2 is no row\n",
+        ),
+        (
+            &[(b"ooa 2 2 1 1 1 bad\n12\n", 1)],
+            b"refused: line 2 is no row\n",
+        ),
+        (
+            &[(b"ooa 2 2 1 1 2 one\n1\r0\n", 1)],
+            b"refused: line 2 is no row\n",
+        ),
+        (
+            &[(b"ooa 2 2 1 1 2 one\r\r\n10\n", 1)],
+            b"refused: line 1 is no header\n",
+        ),
+        (
+            &[(b"ooa 2 2 1 1 2 one\n10\r\r\n", 1)],
+            b"refused: line 2 is no row\n",
+        ),
+        (
+            &[(b"ooa 2 2 1 2 2 cut\n10\n0", 1)],
+            b"refused: line 3 is no row\n",
+        ),
+        (&[(b"ooa 2 2 1 1 2 one\r\n10", 1)], b"holds one\n"),
+        (&[(ONE, 1), (b" \t\r\n", 9), (b" ", 3)], b"holds one\n"),
+        (
+            &[(ONE, 1), (b"\n", 2), (b"x", 1)],
+            b"refused: line 5 is not blank\n",
+        ),
+        (
+            &[(b"net 2 16 16 0 wide\n", 1), (b"0000000000000000\n", 256)],
+            b"refused: 601080390 choices, more than 500000\n",
+        ),
+    ];
+    for (parts, line) in cases {
+        let text = text_of(rt.alloc(), parts)?;
+        let answer = run(rt.alloc(), &["16,32", "check"], &text, 4096)?;
+        assert_eq!(rt; answer.1.as_slice(), line);
+        let status = if line.starts_with(b"holds") {
+            Status::Ok
+        } else {
+            Status::Refused
+        };
+        assert_eq!(rt; answer.0, status);
     }
     Ok(())
 }

@@ -1,16 +1,38 @@
 //! The texts that the program writes.
-ghost use Rattle.std.specs.Prelude.{◌≡◌, ◌∷◌, ◌++◌, decimal, flat_map, IfOk, OnOk};
-ghost use Rattle.mint.specs.Texts.{holds_text, listed, depends_text};
+ghost use Rattle.std.specs.Prelude.{◌≡◌, [], ◌∷◌, ◌++◌, codes, decimal, flat_map, IfOk, OnOk};
+ghost use Rattle.mint.specs.Texts.{form_text, part_text, failing_part, listed, outcome_text};
 
+use crate::checks::{Outcome, Part};
+use mt_import::{FormRefused, Wanted};
+use mt_system::Form;
 use std::alloc::{AllocError, Global};
 
 pub const USAGE: &[u8] = b"usage: mint STORE FEED M,S COMMAND\n";
 
-pub const LATER: &[u8] = b"later\n";
+/// The line for what a check found.
+pub fn outcome_line(alloc: Global, outcome: &Outcome) -> Result<Vec<u8>, AllocError>
+    ensures { IfOk result (λ text. text.items ≡ outcome_text outcome.now) }
+{
+    match outcome {
+        Outcome::Holds(checked) => holds(alloc, checked.claim().name.bytes()),
+        Outcome::Form(refused) => form_line(alloc, *refused),
+        Outcome::Range {
+            name,
+            number,
+            limit,
+        } => range_line(alloc, *name, *number, *limit),
+        Outcome::TooManyChoices { count } => choices_line(alloc, *count),
+        Outcome::Dependent {
+            form,
+            part,
+            choice,
+            coefficients,
+        } => depends(alloc, *form, *part, choice.sizes(), coefficients.digits()),
+    }
+}
 
-/// The text for a claim that holds.
-pub fn holds(alloc: Global, name: &[u8]) -> Result<Vec<u8>, AllocError>
-    ensures { IfOk result (λ text. text.items ≡ holds_text name.now) }
+fn holds(alloc: Global, name: &[u8]) -> Result<Vec<u8>, AllocError>
+    ensures { IfOk result (λ text. text.items ≡ codes "holds " ++ name.now ++ 10 ∷ []) }
 {
     let mut text = Vec::from_slice(alloc, b"holds ")?;
     text.extend_from_slice(name)?;
@@ -18,16 +40,83 @@ pub fn holds(alloc: Global, name: &[u8]) -> Result<Vec<u8>, AllocError>
     Ok(text)
 }
 
-/// The text for the first dependent choice: its sizes, and the coefficients of its rows.
-pub fn depends(alloc: Global, sizes: &[u8], coefficients: &[u8]) -> Result<Vec<u8>, AllocError>
-    ensures { IfOk result (λ text. text.items ≡ depends_text sizes.now coefficients.now) }
+fn form_line(alloc: Global, refused: FormRefused) -> Result<Vec<u8>, AllocError>
+    ensures { IfOk result (λ text. text.items ≡ form_text refused) }
 {
-    let mut text = Vec::from_slice(alloc, b"refused: choice ")?;
+    let FormRefused::Line { line, wanted } = refused else {
+        return Vec::from_slice(alloc, b"refused: more than 65536 bytes\n");
+    };
+    let mut text = Vec::from_slice(alloc, b"refused: line ")?;
+    push_number(alloc, &mut text, line as u64)?;
+    text.extend_from_slice(match wanted {
+        Wanted::Header => b" is no header\n",
+        Wanted::Row => b" is no row\n",
+        Wanted::Blank => b" is not blank\n",
+    })?;
+    Ok(text)
+}
+
+fn range_line(alloc: Global, name: Part, number: u8, limit: u8) -> Result<Vec<u8>, AllocError>
+    ensures { IfOk result (λ text. text.items
+        ≡ codes "refused: " ++ part_text name ++ decimal number ++ codes " is over " ++ decimal limit ++ 10 ∷ []) }
+{
+    let mut text = Vec::from_slice(alloc, b"refused: ")?;
+    text.extend_from_slice(match name {
+        Part::M => b"m ",
+        Part::S => b"s ",
+    })?;
+    push_number(alloc, &mut text, number as u64)?;
+    text.extend_from_slice(b" is over ")?;
+    push_number(alloc, &mut text, limit as u64)?;
+    text.push(b'\n')?;
+    Ok(text)
+}
+
+fn choices_line(alloc: Global, count: u64) -> Result<Vec<u8>, AllocError>
+    ensures { IfOk result (λ text. text.items
+        ≡ codes "refused: " ++ decimal count ++ codes " choices, more than 500000\n") }
+{
+    let mut text = Vec::from_slice(alloc, b"refused: ")?;
+    push_number(alloc, &mut text, count)?;
+    text.extend_from_slice(b" choices, more than 500000\n")?;
+    Ok(text)
+}
+
+// The line for the first dependent choice: its sizes, and the coefficients of its rows.
+fn depends(
+    alloc: Global,
+    form: Form,
+    part: u8,
+    sizes: &[u8],
+    coefficients: &[u8],
+) -> Result<Vec<u8>, AllocError>
+    ensures { IfOk result (λ text. text.items
+        ≡ codes "refused: " ++ failing_part form part ++ codes "choice " ++ listed sizes.now
+        ++ codes " depends with " ++ listed coefficients.now ++ 10 ∷ []) }
+{
+    let mut text = Vec::from_slice(alloc, b"refused: ")?;
+    push_part(alloc, &mut text, form, part)?;
+    text.extend_from_slice(b"choice ")?;
     push_list(alloc, &mut text, sizes)?;
     text.extend_from_slice(b" depends with ")?;
     push_list(alloc, &mut text, coefficients)?;
     text.push(b'\n')?;
     Ok(text)
+}
+
+// Adds the part that fails, for a sequence.
+fn push_part(alloc: Global, text: &mut Vec<u8>, form: Form, part: u8) -> Result<(), AllocError>
+    ensures { OnOk result (text.new.items ≡ text.old.items ++ failing_part form part) }
+{
+    match form {
+        Form::Ooa | Form::Net => {}
+        Form::Seq => {
+            text.extend_from_slice(b"part ")?;
+            push_number(alloc, text, part as u64)?;
+            text.push(b' ')?;
+        }
+    }
+    Ok(())
 }
 
 // Adds the numbers in decimal, with commas between them.
@@ -37,7 +126,7 @@ fn push_list(alloc: Global, text: &mut Vec<u8>, numbers: &[u8]) -> Result<(), Al
     let Some((first, rest)) = numbers.split_first() else {
         return Ok(());
     };
-    push_number(alloc, text, *first)?;
+    push_number(alloc, text, *first as u64)?;
     push_behind(alloc, text, rest)?;
     Ok(())
 }
@@ -49,13 +138,13 @@ fn push_behind(alloc: Global, text: &mut Vec<u8>, numbers: &[u8]) -> Result<(), 
 {
     for number in numbers {
         text.push(b',')?;
-        push_number(alloc, text, *number)?;
+        push_number(alloc, text, *number as u64)?;
     }
     Ok(())
 }
 
 // Adds the number in decimal.
-fn push_number(alloc: Global, text: &mut Vec<u8>, number: u8) -> Result<(), AllocError>
+fn push_number(alloc: Global, text: &mut Vec<u8>, number: u64) -> Result<(), AllocError>
     ensures { OnOk result (text.new.items ≡ text.old.items ++ decimal number) }
 {
     let digits = format!(in alloc; "{number}")?;

@@ -8,10 +8,12 @@ ghost use Rattle.mt_system.specs.Rows.{Strength, rows_by, part_rows, first_rows}
 ghost use Rattle.mt_strength.specs.Dependence.{lists_of, AllOf, IsRelation};
 ghost use Rattle.mt_strength.specs.Verdicts.{IsVerdict, IsVerdictAmong, IsGreatestStrength};
 
+mod checks;
 mod sequences;
 #[cfg(test)]
 mod tests;
 
+pub use checks::{Checked, Tested, choices_of};
 use mt_linear::{Basis, Inserted, Order, Vector, negated};
 use mt_system::{Choice, System, next_choice};
 pub use sequences::{SeqVerdict, check_sequence};

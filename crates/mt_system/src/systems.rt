@@ -134,4 +134,13 @@ impl System {
         let start = ((i as usize - 1) * self.depth as usize + (j as usize - 1)) * self.m as usize;
         &self.digits[start..start + self.m as usize]
     }
+
+    /// All digits, by coordinate, row and column.
+    pub fn digits(&self) -> &[u8]
+        ensures value { result.now ≡ self.now.digits }
+        ensures system { IsSystem self.now.order self.now.columns self.now.coordinates
+            self.now.depth self.now.digits }
+    {
+        self.digits.as_slice()
+    }
 }

@@ -1,0 +1,112 @@
+//! The check of an import text.
+ghost use Rattle.std.specs.Prelude.{◌≡◌, ℕ, ◌<◌, ◌≤◌, List, IfOk, MatchOption};
+ghost use Rattle.mint.specs.Outcomes.{IsOver, IsOutcome, IsClaimOutcome};
+ghost use Rattle.mt_system.specs.Statements.{statement_of};
+
+use mt_import::{FormRefused, Header, ImportRefused, in_grammar, read_header, read_import};
+use mt_linear::Vector;
+use mt_strength::{Checked, Tested, choices_of};
+use mt_system::{Choice, Claim, Form};
+use std::alloc::{AllocError, Global};
+
+// How many choices a check may try.
+const MOST_CHOICES: u64 = 500_000;
+
+/// A size that has a limit.
+#[derive(Clone, Copy, PartialEq, Eq, Debug)]
+pub enum Part {
+    /// The number of columns.
+    M,
+    /// The number of coordinates.
+    S,
+}
+
+/// What a check of an import text found.
+#[derive(Drop)]
+pub enum Outcome {
+    /// The claim, whose strength holds.
+    Holds(Checked),
+    /// The text is no import text.
+    Form(FormRefused),
+    /// A size is over its limit. A number over 255 is shown as 255.
+    Range {
+        name: Part,
+        number: u8,
+        limit: u8,
+    },
+    /// The check might try so many choices, which are more than 500,000.
+    TooManyChoices {
+        count: u64,
+    },
+    /// The strength fails. This is the first dependent choice, in this part of a sequence or, for an
+    /// array or a net, in the whole system, with its one combination to zero.
+    Dependent {
+        form: Form,
+        part: u8,
+        choice: Choice,
+        coefficients: Vector,
+    },
+}
+
+/// Checks an import text whose system may have `m_max` columns and `s_max` coordinates. The text is
+/// refused by its form, then by its sizes, then by the number of choices, then by its strength.
+pub fn check_text(alloc: Global, m_max: u8, s_max: u8, text: &[u8]) -> Result<Outcome, AllocError>
+    ensures { IfOk result (IsOutcome m_max s_max text.now) }
+{
+    if let Err(refused) = in_grammar(text) {
+        return Ok(Outcome::Form(refused));
+    }
+    let Some(header) = read_header(text) else {
+        unreachable!()
+    };
+    if let Some((name, number, limit)) = size_over(&header, m_max, s_max) {
+        return Ok(Outcome::Range {
+            name,
+            number,
+            limit,
+        });
+    }
+    match read_import(alloc, text) {
+        Ok(claim) => check_claim(alloc, claim),
+        Err(ImportRefused::Form(refused)) => Ok(Outcome::Form(refused)),
+        Err(ImportRefused::Memory) => Err(AllocError),
+    }
+}
+
+// The first size of the header that is over its limit, its number and the limit.
+fn size_over(header: &Header, m_max: u8, s_max: u8) -> Option<(Part, u8, u8)>
+    ensures { MatchOption result ((header.now.m ≤ m_max) × (header.now.s ≤ s_max))
+        (λ r. IsOver m_max s_max header.now r.0 r.1 r.2) }
+{
+    if header.m > m_max as u16 {
+        return Some((Part::M, header.m.min(255) as u8, m_max));
+    }
+    if header.s > s_max as u16 {
+        return Some((Part::S, header.s.min(255) as u8, s_max));
+    }
+    None
+}
+
+// Checks a claim.
+fn check_claim(alloc: Global, claim: Claim) -> Result<Outcome, AllocError>
+    ensures { IfOk result (IsClaimOutcome (statement_of claim)) }
+{
+    let count = choices_of(&claim);
+    if count > MOST_CHOICES {
+        return Ok(Outcome::TooManyChoices { count });
+    }
+    let form = claim.form;
+    match Checked::of(alloc, claim)? {
+        Tested::Good(checked) => Ok(Outcome::Holds(checked)),
+        Tested::Dependent {
+            part,
+            choice,
+            coefficients,
+        } => Ok(Outcome::Dependent {
+            form,
+            part,
+            choice,
+            coefficients,
+        }),
+    }
+}

@@ -1,0 +1,7 @@
+mod CanonicalLemmas
+mod LineLemmas
+mod NumberLemmas
+pub mod HeaderLemmas
+mod RowLemmas
+mod ReadingLemmas
+mod LawLemmas

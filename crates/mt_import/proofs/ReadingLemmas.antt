@@ -1,0 +1,138 @@
+-- What was read so far of the lines behind the header.
+use Rattle.std.proofs.Common.{◌≡◌, ℕ, ◌+◌, ◌-◌, ◌*◌, suc-mul, zero-mul, ◌<◌, ◌≤◌, List, [], ◌∷◌, ◌++◌, length, flat_map, All, refl, sym, ap, ◌∙◌, subst, arith}
+use Rattle.std.specs.Prelude.{Result, Ok, Err, MatchResult}
+use Rattle.std.proofs.lemmas.List.{append_assoc, length-append, length-map, length_push}
+use Rattle.std.proofs.lemmas.List.Elements.{All-nil, All-push, All-head, All-tail, All-append, All-map, All-weaker}
+use Rattle.mt_import.specs.declared.headers.Header.{Header}
+use Rattle.mt_import.specs.declared.refusals.FormRefused.{FormRefused}
+use Rattle.mt_import.specs.declared.refusals.FormRefused.TheVariants.{Line}
+use Rattle.mt_import.specs.declared.refusals.Wanted.TheVariants.{Row, Blank}
+use Rattle.mt_import.specs.Lines.{lines_of, without_blanks}
+use Rattle.mt_import.specs.Texts.{IsRow, digits_of, IsBlankLine, HasNoRow, Begins, IsImport, IsRefusal}
+use Rattle.mt_import.specs.Reading.{StartsWith, TakesRows, LacksRow, LacksBlank}
+
+pub takes_none : (h : Header) (text : List ℕ) → TakesRows h 0 text text []
+takes_none h text = record { number = refl; lines = refl; each = All-nil (IsRow h.q h.m) }
+
+-- the list before goes on with one more line
+lines_more : (text rest behind line : List ℕ) (lines : List (List ℕ)) → lines_of text ≡ lines ++ lines_of rest → lines_of rest ≡ line ∷ lines_of behind → lines_of text ≡ (lines ++ line ∷ []) ++ lines_of behind
+lines_more text rest behind line lines e next = e ∙ ap (λ (ls : List (List ℕ)). lines ++ ls) next ∙ sym (append_assoc lines (line ∷ []) (lines_of behind))
+
+pub takes_more : (h : Header) (n : ℕ) (text rest behind row : List ℕ) (rows : List (List ℕ)) → TakesRows h n text rest rows → lines_of rest ≡ row ∷ lines_of behind → IsRow h.q h.m row
+    → TakesRows h (n + 1) text behind (rows ++ row ∷ [])
+takes_more h n text rest behind row rows takes next is = record {
+  number = length_push rows row ∙ ap (λ k. k + 1) takes.number;
+  lines = lines_more text rest behind row rows takes.lines next;
+  each = All-push (IsRow h.q h.m) rows row takes.each is;
+}
+
+pub lacks_row : (h : Header) (n total : ℕ) (text rest : List ℕ) (rows : List (List ℕ)) (refused : FormRefused) → TakesRows h n text rest rows → n < total → HasNoRow h.q h.m (lines_of rest) → refused ≡ Line (n + 2) Row
+    → LacksRow h total text refused
+lacks_row h n total text rest rows refused takes fewer none e = record {
+  rows = rows;
+  others = lines_of rest;
+  lines = takes.lines;
+  each = takes.each;
+  fewer = omega (arith, takes.number);
+  none = none;
+  refused_is = e ∙ ap (λ k. Line (k + 2) Row) (sym takes.number);
+}
+
+-- blank lines, with the rest behind them
+pub record TakesBlanks (text rest : List ℕ) (blanks : List (List ℕ)) : Type 0 where
+  pub lines : lines_of text ≡ blanks ++ lines_of rest
+  pub each : All IsBlankLine blanks
+  pub few : length blanks + length rest ≤ length text
+
+pub blanks_none : (text : List ℕ) → TakesBlanks text text []
+blanks_none text = record { lines = refl; each = All-nil IsBlankLine; few = omega arith }
+
+pub blanks_more : (text rest behind line : List ℕ) (blanks : List (List ℕ)) → TakesBlanks text rest blanks → lines_of rest ≡ line ∷ lines_of behind → length behind < length rest → IsBlankLine line
+    → TakesBlanks text behind (blanks ++ line ∷ [])
+blanks_more text rest behind line blanks takes next shorter is = record {
+  lines = lines_more text rest behind line blanks takes.lines next;
+  each = All-push IsBlankLine blanks line takes.each is;
+  few = omega (arith, length_push blanks line, takes.few);
+}
+
+pub lacks_blank : (n : ℕ) (text rest behind line : List ℕ) (blanks : List (List ℕ)) (k : ℕ) → TakesBlanks text rest blanks → lines_of rest ≡ line ∷ lines_of behind → ¬ IsBlankLine line → k ≡ n + length blanks
+    → LacksBlank n text (Line k Blank)
+lacks_blank n text rest behind line blanks k takes next marked e = record {
+  blanks = blanks;
+  last = line;
+  others = lines_of behind;
+  lines = takes.lines ∙ ap (λ (ls : List (List ℕ)). blanks ++ ls) next;
+  blank = takes.each;
+  none = marked;
+  refused_is = ap (λ m. Line m Blank) e;
+}
+
+-- the whole text, from the lines behind the header
+begins : (text rest : List ℕ) (h : Header) (rows others : List (List ℕ)) → length text ≤ 65536 → StartsWith text h rest → lines_of rest ≡ rows ++ others → All (IsRow h.q h.m) rows → Begins text h rows others
+begins text rest h rows others few starts lines each = record {
+  few = few;
+  first = starts.line;
+  lines = starts.lines ∙ ap (λ (ls : List (List ℕ)). starts.line ∷ ls) lines;
+  header = starts.header;
+  each = each;
+}
+
+pub refused_row : (text rest : List ℕ) (h : Header) (refused : FormRefused) → length text ≤ 65536 → StartsWith text h rest → LacksRow h (h.s * h.depth) rest refused → IsRefusal text refused
+refused_row text rest h refused few starts lacks =
+    subst (IsRefusal text) (sym lacks.refused_is) (record {
+      header = h;
+      rows = lacks.rows;
+      others = lacks.others;
+      begins = begins text rest h lacks.rows lacks.others few starts lacks.lines lacks.each;
+      fewer = lacks.fewer;
+      line = refl;
+      refused = lacks.none;
+    })
+
+pub refused_end : (text rest behind : List ℕ) (h : Header) (rows : List (List ℕ)) (refused : FormRefused) → length text ≤ 65536 → StartsWith text h rest → TakesRows h (h.s * h.depth) rest behind rows
+    → LacksBlank (h.s * h.depth + 2) behind refused → IsRefusal text refused
+refused_end text rest behind h rows refused few starts takes lacks =
+    subst (IsRefusal text) (sym lacks.refused_is) (record {
+      header = h;
+      rows = rows;
+      blanks = lacks.blanks;
+      last = lacks.last;
+      others = lacks.others;
+      begins = begins text rest h rows (lacks.blanks ++ lacks.last ∷ lacks.others) few starts (takes.lines ∙ ap (λ (ls : List (List ℕ)). rows ++ ls) lacks.lines) takes.each;
+      number = takes.number;
+      blank = lacks.blank;
+      line = omega (arith, takes.number);
+      refused = lacks.none;
+    })
+
+pub is_import : (text rest behind : List ℕ) (h : Header) (rows : List (List ℕ)) → length text ≤ 65536 → StartsWith text h rest → TakesRows h (h.s * h.depth) rest behind rows → All IsBlankLine (lines_of behind)
+    → IsImport text h (flat_map digits_of rows)
+is_import text rest behind h rows few starts takes blank = record {
+  rows = rows;
+  blanks = lines_of behind;
+  begins = begins text rest h rows (lines_of behind) few starts takes.lines takes.each;
+  number = takes.number;
+  digits_are = refl;
+  blank = blank;
+}
+
+pub grammar_end : (text rest behind : List ℕ) (h : Header) (rows : List (List ℕ)) → length text ≤ 65536 → StartsWith text h rest → TakesRows h (h.s * h.depth) rest behind rows → (r : Result (Unit {0}) FormRefused)
+    → MatchResult r (λ _. All IsBlankLine (lines_of behind)) (LacksBlank (h.s * h.depth + 2) behind) → MatchResult r (λ _. (g : Header) × (digits : List ℕ) × IsImport text g digits) (IsRefusal text)
+grammar_end text rest behind h rows few starts takes (Ok _) blank = (h, flat_map digits_of rows, is_import text rest behind h rows few starts takes blank)
+grammar_end text rest behind h rows few starts takes (Err e) lacks = refused_end text rest behind h rows e few starts takes lacks
+
+pub length-digits : (q m : ℕ) (rows : List (List ℕ)) → All (IsRow q m) rows → length (flat_map digits_of rows) ≡ length rows * m
+length-digits q m [] each = sym (zero-mul m)
+length-digits q m (row ∷ rows) each =
+    let first = (All-head (IsRow q m) row rows each).size in
+    let size : length (digits_of row) ≡ m = length-map (without_blanks row) (λ b. b - 48) ∙ first in
+    let more = length-digits q m rows (All-tail (IsRow q m) row rows each) in
+    omega (arith, length-append (digits_of row) (flat_map digits_of rows), suc-mul (length rows) m)
+
+pub small_digits : (q m : ℕ) (rows : List (List ℕ)) → All (IsRow q m) rows → All (λ d. d < q) (flat_map digits_of rows)
+small_digits q m [] each = All-nil (λ d. d < q)
+small_digits q m (row ∷ rows) each =
+    let small = λ (b : ℕ) (h : (48 ≤ b) × (b < 48 + q)). (let from = h.0 in let to = h.1 in let r : b - 48 < q = omega arith in r) in
+    All-append (λ d. d < q) (digits_of row) (flat_map digits_of rows)
+    (All-map (λ d. d < q) (λ b. b - 48) (without_blanks row) (All-weaker (λ b. (48 ≤ b) × (b < 48 + q)) (λ b. b - 48 < q) small (without_blanks row) (All-head (IsRow q m) row rows each).digits))
+    (small_digits q m rows (All-tail (IsRow q m) row rows each))

@@ -1,0 +1,10 @@
+use Rattle.std.proofs.Common.{◌≡◌, ℕ, ◌≤◌, List, length, flat_map}
+use Rattle.mt_import.specs.Texts.{digits_of}
+use Rattle.mt_import.specs.Reading.{TakesRows}
+use Rattle.mt_import.proofs.reading.read_rows.Given as goal
+
+abbrev pub invariant-loop-passed : goal.invariant-loop-passed
+invariant-loop-passed l = record {
+  shorter : length l.rest ≤ length l.text;
+  taken : (rows : List (List ℕ)) × TakesRows l.header l.passed l.text l.rest rows × (l.digits.items ≡ flat_map digits_of rows);
+}

@@ -1,0 +1,40 @@
+-- Lines of a text, and what stands on a line beside blanks.
+use Rattle.std.specs.Prelude.{ℕ, Bool, false, not, ◌||◌, ◌==◌, if◌then◌else◌, List, [], ◌∷◌, map, filter}
+
+-- a space or a tab
+abbrev pub is_blank : ℕ → Bool
+is_blank b = b == 32 || b == 9
+
+-- a byte in front of the first of these pieces
+abbrev pub in_front : ℕ → List (List ℕ) → List (List ℕ)
+in_front b [] = (b ∷ []) ∷ []
+in_front b (piece ∷ pieces) = (b ∷ piece) ∷ pieces
+
+-- what stands before each line feed, and what stands behind the last one, if anything does
+abbrev pub pieces_of : List ℕ → List (List ℕ)
+pieces_of [] = []
+pieces_of (b ∷ bs) = if b == 10 then [] ∷ pieces_of bs else in_front b (pieces_of bs)
+
+-- without a carriage return at its end
+abbrev pub without_return : List ℕ → List ℕ
+without_return [] = []
+without_return (b ∷ []) = if b == 13 then [] else b ∷ []
+without_return (b ∷ c ∷ bs) = b ∷ without_return (c ∷ bs)
+
+-- the lines of a text
+abbrev pub lines_of : List ℕ → List (List ℕ)
+lines_of text = map without_return (pieces_of text)
+
+-- a word goes on behind its byte where the next byte is there and is no blank
+abbrev pub goes_on : List ℕ → Bool
+goes_on [] = false
+goes_on (b ∷ bs) = not (is_blank b)
+
+-- the words of a line, with one or more blanks between them
+abbrev pub words_of : List ℕ → List (List ℕ)
+words_of [] = []
+words_of (b ∷ bs) = if is_blank b then words_of bs else (if goes_on bs then in_front b (words_of bs) else (b ∷ []) ∷ words_of bs)
+
+-- a line without its blanks
+abbrev pub without_blanks : List ℕ → List ℕ
+without_blanks line = filter (λ b. not (is_blank b)) line

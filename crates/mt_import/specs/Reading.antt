@@ -1,0 +1,57 @@
+-- What the reader answers, and what its parts take off a text.
+use Rattle.std.specs.Prelude.{◌≡◌, ℕ, ◌+◌, ◌<◌, List, ◌∷◌, ◌++◌, length, All, Result, Ok, Err}
+use Rattle.mt_system.specs.declared.claims.Claim.{Claim}
+use Rattle.mt_system.specs.Statements.{statement_of}
+use Rattle.mt_import.specs.declared.headers.Header.{Header}
+use Rattle.mt_import.specs.declared.refusals.FormRefused.{FormRefused}
+use Rattle.mt_import.specs.declared.refusals.FormRefused.TheVariants.{Line}
+use Rattle.mt_import.specs.declared.refusals.Wanted.TheVariants.{Row, Blank}
+use Rattle.mt_import.specs.declared.refusals.ImportRefused.{ImportRefused}
+use Rattle.mt_import.specs.declared.refusals.ImportRefused.TheVariants.{Form, Memory}
+use Rattle.mt_import.specs.Lines.{lines_of}
+use Rattle.mt_import.specs.Headers.{IsHeaderLine}
+use Rattle.mt_import.specs.Texts.{IsRow, IsBlankLine, HasNoRow, IsRefusal}
+use Rattle.mt_import.specs.Canonical.{IsTextOf}
+
+-- line 1 is this header, and the other lines are those of the rest
+pub record StartsWith (text : List ℕ) (h : Header) (rest : List ℕ) : Type 0 where
+  pub line : List ℕ
+  pub lines : lines_of text ≡ line ∷ lines_of rest
+  pub header : IsHeaderLine line h
+
+-- the claim of the text, or why it has none
+abbrev pub IsReading : List ℕ → Result Claim ImportRefused → Type 0
+IsReading text (Ok c) = IsTextOf text (statement_of c)
+IsReading text (Err (Form f)) = IsRefusal text f
+IsReading text (Err Memory) = Unit {0}
+
+-- so many rows, with the rest behind them
+pub record TakesRows (h : Header) (n : ℕ) (text rest : List ℕ) (rows : List (List ℕ)) : Type 0 where
+  pub number : length rows ≡ n
+  pub lines : lines_of text ≡ rows ++ lines_of rest
+  pub each : All (IsRow h.q h.m) rows
+
+-- fewer rows than n, and then none
+pub record LacksRow (h : Header) (n : ℕ) (text : List ℕ) (refused : FormRefused) : Type 0 where
+  pub rows : List (List ℕ)
+  pub others : List (List ℕ)
+  pub lines : lines_of text ≡ rows ++ others
+  pub each : All (IsRow h.q h.m) rows
+  pub fewer : length rows < n
+  pub none : HasNoRow h.q h.m others
+  pub refused_is : refused ≡ Line (length rows + 2) Row
+
+-- blank lines, and then one that is not; the first line is number n
+pub record LacksBlank (n : ℕ) (text : List ℕ) (refused : FormRefused) : Type 0 where
+  pub blanks : List (List ℕ)
+  pub last : List ℕ
+  pub others : List (List ℕ)
+  pub lines : lines_of text ≡ blanks ++ last ∷ others
+  pub blank : All IsBlankLine blanks
+  pub none : ¬ IsBlankLine last
+  pub refused_is : refused ≡ Line (n + length blanks) Blank
+
+-- this is said of the refusal, where memory is not the cause
+abbrev pub IfRefused : (FormRefused → Type 0) → ImportRefused → Type 0
+IfRefused P (Form f) = P f
+IfRefused P Memory = Unit {0}

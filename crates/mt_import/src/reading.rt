@@ -1,0 +1,194 @@
+//! The reader of import texts.
+ghost use Rattle.std.specs.Prelude.{◌≡◌, ℕ, ◌+◌, ◌*◌, ◌<◌, ◌≤◌, List, ◌∷◌, ◌++◌, length, flat_map, All, Some, IfSome, IfErr, MatchOption, MatchResult, IfOk};
+ghost use Rattle.mt_system.specs.Statements.{statement_of};
+ghost use Rattle.mt_import.specs.declared.headers.Header.{Header};
+ghost use Rattle.mt_import.specs.declared.refusals.FormRefused.{FormRefused};
+ghost use Rattle.mt_import.specs.Lines.{lines_of};
+ghost use Rattle.mt_import.specs.Headers.{IsHeader};
+ghost use Rattle.mt_import.specs.Texts.{IsRow, digits_of, IsBlankLine, HasNoRow, HasHeader, IsImport, IsRefusal};
+ghost use Rattle.mt_import.specs.Canonical.{header_of};
+ghost use Rattle.mt_import.specs.Reading.{StartsWith, IsReading, TakesRows, LacksRow, LacksBlank, IfRefused};
+
+use crate::headers::{Header, read_line};
+use crate::lines::split_line;
+use crate::refusals::{FormRefused, ImportRefused, Wanted};
+use crate::rows::{is_blank_line, is_row, push_digits};
+use mt_linear::Order;
+use mt_system::{Claim, System};
+use std::alloc::Global;
+
+// How many bytes a text may have.
+const MOST: usize = 65536;
+
+/// The header on line 1, or `None` where there is none. What stands behind line 1 does not matter.
+pub fn read_header(bytes: &[u8]) -> Option<Header>
+    ensures found { IfSome result (HasHeader bytes.now) }
+    ensures only { (h : Header) → HasHeader bytes.now h → result ≡ Some h }
+{
+    let (line, _) = split_line(bytes)?;
+    read_line(line)
+}
+
+/// Whether this is an import text. Else it answers why it is none: more than 65,536 bytes, or the
+/// first refused line.
+pub fn in_grammar(bytes: &[u8]) -> Result<(), FormRefused>
+    ensures { MatchResult result
+        (λ _. (h : Header) × (digits : List ℕ) × IsImport bytes.now h digits)
+        (IsRefusal bytes.now) }
+{
+    let (header, rest) = match read_start(bytes) {
+        Ok(start) => start,
+        Err(refused) => return Err(refused),
+    };
+    let rest = pass_rows(rest, &header)?;
+    read_end(rest, count_rows(&header) + 2)
+}
+
+/// The claim of an import text, or why it is none, as [`in_grammar`] says.
+pub fn read_import(alloc: Global, bytes: &[u8]) -> Result<Claim, ImportRefused>
+    requires { (h : Header) → HasHeader bytes.now h → (h.m < 256) × (h.s < 256) × (h.depth < 256) }
+    ensures { IsReading bytes.now result }
+{
+    let (header, rest) = match read_start(bytes) {
+        Ok(start) => start,
+        Err(refused) => return Err(ImportRefused::Form(refused)),
+    };
+    let (digits, rest) = read_rows(alloc, rest, &header)?;
+    read_end(rest, count_rows(&header) + 2)?;
+    Ok(claim_of(&header, digits))
+}
+
+// The header, and the text behind line 1.
+fn read_start(bytes: &[u8]) -> Result<(Header, &[u8]), FormRefused>
+    ensures { MatchResult result
+        (λ r. (length bytes.now ≤ 65536) × (length r.1.now ≤ 65536) × StartsWith bytes.now r.0 r.1.now)
+        (IsRefusal bytes.now) }
+{
+    if bytes.len() > MOST {
+        return Err(FormRefused::TooLong);
+    }
+    let refused = FormRefused::Line {
+        line: 1,
+        wanted: Wanted::Header,
+    };
+    let (line, rest) = split_line(bytes).ok_or(refused)?;
+    let header = read_line(line).ok_or(refused)?;
+    Ok((header, rest))
+}
+
+fn count_rows(header: &Header) -> u32
+    requires { IsHeader header.now }
+    ensures value { result ≡ header.now.s * header.now.depth }
+    ensures small { result < 1000000 }
+{
+    header.s as u32 * header.depth as u32
+}
+
+// The text behind the rows.
+fn pass_rows<'a>(text: &'a [u8], header: &Header) -> Result<&'a [u8], FormRefused>
+    requires { IsHeader header.now }
+    ensures { MatchResult result
+        (λ r. (length r.now ≤ length text.now) × ((rows : List (List ℕ))
+        × TakesRows header.now (header.now.s * header.now.depth) text.now r.now rows))
+        (LacksRow header.now (header.now.s * header.now.depth) text.now) }
+{
+    let mut rest = text;
+    for passed in 0..count_rows(header) {
+        let (_, behind) = split_row(rest, header, passed + 2)?;
+        rest = behind;
+    }
+    Ok(rest)
+}
+
+// The digits of the rows, and the text behind them.
+fn read_rows<'a>(
+    alloc: Global,
+    text: &'a [u8],
+    header: &Header,
+) -> Result<(Vec<u8>, &'a [u8]), ImportRefused>
+    requires { IsHeader header.now }
+    ensures { MatchResult result
+        (λ r. (length r.1.now ≤ length text.now) × ((rows : List (List ℕ))
+        × TakesRows header.now (header.now.s * header.now.depth) text.now r.1.now rows
+        × (r.0.items ≡ flat_map digits_of rows)))
+        (IfRefused (LacksRow header.now (header.now.s * header.now.depth) text.now)) }
+{
+    let mut digits = Vec::new(alloc);
+    let mut rest = text;
+    for passed in 0..count_rows(header) {
+        let (row, behind) = split_row(rest, header, passed + 2)?;
+        push_digits(row, &mut digits)?;
+        rest = behind;
+    }
+    Ok((digits, rest))
+}
+
+// The row on the first line, and the text behind it. The line has this number.
+fn split_row<'a>(
+    text: &'a [u8],
+    header: &Header,
+    line: u32,
+) -> Result<(&'a [u8], &'a [u8]), FormRefused>
+    requires { IsHeader header.now }
+    ensures { MatchResult result
+        (λ r. (length r.1.now ≤ length text.now) × (lines_of text.now ≡ r.0.now ∷ lines_of r.1.now)
+        × IsRow header.now.q header.now.m r.0.now)
+        (λ e. (e ≡ FormRefused.Line line Wanted.Row)
+        × HasNoRow header.now.q header.now.m (lines_of text.now)) }
+{
+    let refused = FormRefused::Line {
+        line,
+        wanted: Wanted::Row,
+    };
+    let (row, behind) = split_line(text).ok_or(refused)?;
+    if !is_row(row, header.q as u8, header.m as usize) {
+        return Err(refused);
+    }
+    Ok((row, behind))
+}
+
+// Whether all lines are blank. The first has this number.
+fn read_end(text: &[u8], first: u32) -> Result<(), FormRefused>
+    requires short { length text.now ≤ 65536 }
+    requires small { first < 2000000 }
+    ensures { MatchResult result (λ _. All IsBlankLine (lines_of text.now))
+        (LacksBlank first text.now) }
+{
+    let mut rest = text;
+    let mut number = first;
+    while let Some((line, behind)) = split_line(rest) {
+        if !is_blank_line(line) {
+            return Err(FormRefused::Line {
+                line: number,
+                wanted: Wanted::Blank,
+            });
+        }
+        rest = behind;
+        number += 1;
+    }
+    Ok(())
+}
+
+// The claim of this header and these digits.
+fn claim_of(header: &Header, digits: Vec<u8>) -> Claim
+    requires is_header { IsHeader header.now }
+    requires columns { header.now.m < 256 }
+    requires coordinates { header.now.s < 256 }
+    requires depth { header.now.depth < 256 }
+    requires size { length digits.items ≡ header.now.s * header.now.depth * header.now.m }
+    requires elements { All (λ d. d < header.now.q) digits.items }
+    ensures header { header_of (statement_of result) ≡ header.now }
+    ensures digits { result.system.digits ≡ digits.items }
+{
+    let Some(order) = Order::of_number(header.q as u64) else {
+        unreachable!()
+    };
+    let sizes = (header.m as u8, header.s as u8, header.depth as u8);
+    let Ok(system) = System::new(order, sizes.0, sizes.1, sizes.2, digits) else {
+        unreachable!()
+    };
+    let Some(claim) = Claim::new(header.form, header.name, header.k as u8, system) else {
+        unreachable!()
+    };
+    claim
+}

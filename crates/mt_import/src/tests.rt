@@ -1,0 +1,81 @@
+//! Small texts.
+ghost use Rattle.std.specs.Prelude.{◌<◌};
+
+use crate::{FormRefused, Wanted, in_grammar, print_import, read_header};
+use mt_linear::Order;
+use mt_system::{Claim, Form, Name, System};
+use std::alloc::Global;
+use std::test::Fail;
+
+#[test]
+fn reads_headers(rt: HostRuntime) -> Result<(), Fail> {
+    let text = b" net\t2 2 1  0 one \r\n1 0\n0\t1\r\n\n \t\n";
+    let header = read_header(text).ok_or("header")?;
+    assert!(rt; header.form == Form::Net);
+    assert_eq!(rt; header.q, 2);
+    assert_eq!(rt; header.depth, 2);
+    assert_eq!(rt; header.k, 2);
+    assert_eq!(rt; header.name.bytes(), b"one".as_slice());
+    assert_eq!(rt; in_grammar(text), Ok(()));
+    let header = read_header(b"ooa 9 999 998 997 0 a-b_c.0\nwhatever").ok_or("header")?;
+    assert_eq!(rt; header.m, 999);
+    assert_eq!(rt; header.s, 998);
+    assert_eq!(rt; header.depth, 997);
+    Ok(())
+}
+
+#[test]
+fn refuses_the_first_line(rt: HostRuntime) -> Result<(), Fail> {
+    let cases: [(&[u8], u32, Wanted); 6] = [
+        (b"", 1, Wanted::Header),
+        (b"ooa 6 2 1 1 1 six\n10\n", 1, Wanted::Header),
+        (b"ooa 2 2 1 1 1 bad\n12\nx", 2, Wanted::Row),
+        (b"ooa 2 2 1 2 2 cut\n10\n0", 3, Wanted::Row),
+        (b"ooa 2 2 1 2 2 cut\n10\n", 3, Wanted::Row),
+        (b"ooa 2 2 1 1 2 one\n10\n\nx\ny", 4, Wanted::Blank),
+    ];
+    for (text, line, wanted) in cases {
+        assert_eq!(rt; in_grammar(text), Err(FormRefused::Line { line, wanted }));
+    }
+    Ok(())
+}
+
+// A system of one coordinate.
+fn system_of(alloc: Global, order: Order, m: u8, depth: u8, digits: &[u8]) -> Result<System, Fail>
+    requires columns { 0 < m }
+    requires rows { 0 < depth }
+{
+    let Ok(system) = System::new(order, m, 1, depth, Vec::from_slice(alloc, digits)?) else {
+        return Err("system".into());
+    };
+    Ok(system)
+}
+
+fn claim_of(form: Form, name: &[u8], k: u8, system: System) -> Result<Claim, Fail> {
+    let name = Name::of(name).ok_or("name")?;
+    Ok(Claim::new(form, name, k, system).ok_or("claim")?)
+}
+
+#[test]
+fn prints_claims(rt: HostRuntime) -> Result<(), Fail> {
+    let alloc = rt.alloc();
+    let one = system_of(alloc, Order::Q2, 2, 1, &[1, 0])?;
+    let text = print_import(alloc, &claim_of(Form::Ooa, b"one", 2, one)?)?;
+    assert_eq!(rt; text.as_slice(), b"ooa 2 2 1 1 2 one\n10\n".as_slice());
+
+    let digits = [1u8, 0, 0, 1, 0, 0, 0, 1, 0, 0, 1, 0, 0, 0, 0, 0];
+    let cap = system_of(alloc, Order::Q2, 4, 4, &digits)?;
+    let text = print_import(alloc, &claim_of(Form::Net, b"cap", 3, cap)?)?;
+    assert_eq!(rt;
+        text.as_slice(),
+        b"net 2 4 1 1 cap\n1001\n0001\n0010\n0000\n".as_slice()
+    );
+
+    let nine = system_of(alloc, Order::Q9, 2, 2, &[8, 5, 0, 1])?;
+    let text = print_import(alloc, &claim_of(Form::Seq, b"a-b_c.0", 2, nine)?)?;
+    assert_eq!(rt;
+        text.as_slice(),
+        b"seq 9 2 1 0 a-b_c.0\n85\n01\n".as_slice()
+    );
+    Ok(())
+}
