@@ -1,14 +1,18 @@
 -- How a command ends, from what it writes.
-use Rattle.std.proofs.Common.{◌≡◌, ◌≢◌, ◌⊎◌, inl, inr, ℕ, List, ap, subst, sym, refl, ◌∙◌, arith}
+use Rattle.std.proofs.Common.{◌≡◌, ◌≢◌, ◌⊎◌, inl, inr, ℕ, Bool, true, false, cond, List, ap, subst, sym, refl, arith}
 use Rattle.std.specs.Prelude.{Option}
+use Rattle.mt_cells.specs.declared.bounds.Bounds.{Bounds}
 use Rattle.mint.specs.declared.status.Status.{Status}
-use Rattle.mint.specs.declared.status.Status.TheVariants.{Ok, Memory, Words, Refused, ReadFault, WriteFault}
-use Rattle.mint.specs.Output.{Wrote, WroteFront}
+use Rattle.mint.specs.declared.status.Status.TheVariants.{Ok, Memory, Words, Refused, ReadFault, WriteFault, Outside}
 use Rattle.mint.specs.declared.checks.Outcome.{Outcome}
 use Rattle.mint.specs.declared.checks.Outcome.TheVariants as outcome
-use Rattle.mint.specs.Run.{check_words, outcome_status, IsCheck, IsRun, IsDone, IsEnd}
-use Rattle.mint.specs.Input.{IsInput}
+use Rattle.mint.specs.declared.words.Task.{Task}
+use Rattle.mint.specs.declared.words.Task.TheVariants as task
+use Rattle.mint.specs.declared.words.Command.{Command}
+use Rattle.mint.specs.Output.{Wrote, WroteFront}
+use Rattle.mint.specs.Run.{outcome_status, Does, IsRun, IsDone, IsEnd}
 use Rattle.mint.specs.Statuses.{number_of_status}
+use Rattle.mint.specs.Words.{IsCommand}
 
 module _ (words : List (List ℕ)) (before after written_before written_after : Option (List ℕ)) (status : Status) (output : List ℕ)
     (run : IsRun words before after status output) where
@@ -23,29 +27,40 @@ module _ (words : List (List ℕ)) (before after written_before written_after : 
   IsEnd-run Ok whole cut = done Ok (whole (λ e. absurd (let n = ap number_of_status e in omega arith)))
   IsEnd-run Words whole cut = done Words (whole (λ e. absurd (let n = ap number_of_status e in omega arith)))
   IsEnd-run Refused whole cut = done Refused (whole (λ e. absurd (let n = ap number_of_status e in omega arith)))
+  IsEnd-run Outside whole cut = done Outside (whole (λ e. absurd (let n = ap number_of_status e in omega arith)))
   IsEnd-run Memory whole cut = absurd (none Memory (λ x. x) (whole (λ e. absurd (let n = ap number_of_status e in omega arith))))
   IsEnd-run ReadFault whole cut = absurd (none ReadFault (λ x. x) (whole (λ e. absurd (let n = ap number_of_status e in omega arith))))
   IsEnd-run WriteFault whole cut = record { status = status; output = output; run = run; wrote = cut refl }
 
--- a check ends in one of two ways
-of_outcome : (found : Outcome) → (number_of_status (outcome_status found) ≡ 0) ⊎ (number_of_status (outcome_status found) ≡ 3)
+-- the numbers of the statuses that a task may end with
+abbrev IsEnding : ℕ → Type 0
+IsEnding n = (n ≡ 0) ⊎ ((n ≡ 3) ⊎ (n ≡ 8))
+
+of_outcome : (found : Outcome) → IsEnding (number_of_status (outcome_status found))
 of_outcome (outcome.Holds c) = inl refl
-of_outcome (outcome.Form refused) = inr refl
-of_outcome (outcome.Range name number limit) = inr refl
-of_outcome (outcome.TooManyChoices count) = inr refl
-of_outcome (outcome.Dependent form part choice coefficients) = inr refl
+of_outcome (outcome.Form refused) = inr (inl refl)
+of_outcome (outcome.Range name number limit) = inr (inl refl)
+of_outcome (outcome.TooManyChoices count) = inr (inl refl)
+of_outcome (outcome.Dependent form part choice coefficients) = inr (inl refl)
 
-not_checked : (text : List ℕ) (status : Status) (output : List ℕ) → number_of_status status ≢ 0 → number_of_status status ≢ 3 → IsCheck text status output → ⊥
-not_checked text status output well refused check =
-    let same = ap number_of_status check.status_is in
-    elim (of_outcome check.found) [ inl e ↦ well (same ∙ e) | inr e ↦ refused (same ∙ e) ]
+of_answer : (b : Bool) → IsEnding (number_of_status (cond b Outside Ok))
+of_answer true = inr (inr refl)
+of_answer false = inl refl
 
--- the run of a check
-pub IsRun-check : (words : List (List ℕ)) (before after : Option (List ℕ)) (text : List ℕ) (status : Status) (output : List ℕ)
-    → words ≡ check_words → IsInput 65537 before after text → IsCheck text status output → IsRun words before after status output
-IsRun-check words before after text Ok output is input check = record { words_are = is; text = text; input = input; check = check }
-IsRun-check words before after text Refused output is input check = record { words_are = is; text = text; input = input; check = check }
-IsRun-check words before after text Memory output is input check = absurd (not_checked text Memory output (λ e. omega arith) (λ e. omega arith) check)
-IsRun-check words before after text Words output is input check = absurd (not_checked text Words output (λ e. omega arith) (λ e. omega arith) check)
-IsRun-check words before after text ReadFault output is input check = absurd (not_checked text ReadFault output (λ e. omega arith) (λ e. omega arith) check)
-IsRun-check words before after text WriteFault output is input check = absurd (not_checked text WriteFault output (λ e. omega arith) (λ e. omega arith) check)
+of_task : (b : Bounds) (t : Task) (before after : Option (List ℕ)) (status : Status) (output : List ℕ) → Does b t before after status output → IsEnding (number_of_status status)
+of_task b task.Check before after status output does = subst (λ (s : Status). IsEnding (number_of_status s)) (sym does.check.status_is) (of_outcome does.check.found)
+of_task b (task.Ask question) before after status output does = subst (λ (s : Status). IsEnding (number_of_status s)) (sym does.status_is) (of_answer does.text.outside)
+
+not_ending : (n : ℕ) → n ≢ 0 → n ≢ 3 → n ≢ 8 → IsEnding n → ⊥
+not_ending n a b c e = elim e [ inl x ↦ a x | inr (inl x) ↦ b x | inr (inr x) ↦ c x ]
+
+-- the run of a command
+pub IsRun-command : (words : List (List ℕ)) (before after : Option (List ℕ)) (c : Command) (status : Status) (output : List ℕ) → IsCommand words c → Does c.bounds c.task before after status output
+    → IsRun words before after status output
+IsRun-command words before after c Ok output is does = record { command = c; is = is; does = does }
+IsRun-command words before after c Refused output is does = record { command = c; is = is; does = does }
+IsRun-command words before after c Outside output is does = record { command = c; is = is; does = does }
+IsRun-command words before after c Memory output is does = absurd (not_ending 1 (λ e. omega arith) (λ e. omega arith) (λ e. omega arith) (of_task c.bounds c.task before after Memory output does))
+IsRun-command words before after c Words output is does = absurd (not_ending 2 (λ e. omega arith) (λ e. omega arith) (λ e. omega arith) (of_task c.bounds c.task before after Words output does))
+IsRun-command words before after c ReadFault output is does = absurd (not_ending 4 (λ e. omega arith) (λ e. omega arith) (λ e. omega arith) (of_task c.bounds c.task before after ReadFault output does))
+IsRun-command words before after c WriteFault output is does = absurd (not_ending 5 (λ e. omega arith) (λ e. omega arith) (λ e. omega arith) (of_task c.bounds c.task before after WriteFault output does))

@@ -2,3 +2,4 @@ mod CheckLemmas
 mod EndLemmas
 mod InputLemmas
 mod TextLemmas
+mod WordLemmas

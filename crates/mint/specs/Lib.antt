@@ -4,3 +4,4 @@ pub mod Output
 pub mod Run
 pub mod Statuses
 pub mod Texts
+pub mod Words

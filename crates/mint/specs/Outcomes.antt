@@ -6,14 +6,16 @@ use Rattle.mt_strength.specs.Checks.{IsFailure, choices_by}
 use Rattle.mt_import.specs.declared.headers.Header.{Header}
 use Rattle.mt_import.specs.Texts.{IsImport, IsRefusal}
 use Rattle.mt_import.specs.Canonical.{IsTextOf}
-use Rattle.mint.specs.declared.checks.Part.{Part}
-use Rattle.mint.specs.declared.checks.Part.TheVariants.{M, S}
+use Rattle.mt_cells.specs.declared.asks.Part.{Part}
+use Rattle.mt_cells.specs.declared.asks.Part.TheVariants.{Q, M, S, Depth}
 use Rattle.mint.specs.declared.checks.Outcome.{Outcome}
 use Rattle.mint.specs.declared.checks.Outcome.TheVariants as outcome
 
 -- the first of the header's m and s that is over its limit, at most 255 being shown
 abbrev pub IsOver : ℕ → ℕ → Header → Part → ℕ → ℕ → Type 0
 IsOver m_max s_max h M number limit = (m_max < h.m) × (number ≡ min h.m 255) × (limit ≡ m_max)
+IsOver m_max s_max h Q number limit = ⊥
+IsOver m_max s_max h Depth number limit = ⊥
 IsOver m_max s_max h S number limit = (h.m ≤ m_max) × (s_max < h.s) × (number ≡ min h.s 255) × (limit ≡ s_max)
 
 -- the text is an import text whose header has this part over its limit

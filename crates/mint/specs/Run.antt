@@ -1,17 +1,24 @@
 -- What a command answers.
-use Rattle.std.specs.Prelude.{◌≡◌, ◌≢◌, ℕ, List, [], ◌∷◌, codes, Option}
+use Rattle.std.specs.Prelude.{◌≡◌, ◌≢◌, ℕ, true, List, [], cond, Option}
+use Rattle.mt_cells.specs.declared.bounds.Bounds.{Bounds}
+use Rattle.mt_cells.specs.declared.rules.Rule.{Rule}
+use Rattle.mt_cells.specs.declared.rules.RuleSet.{RuleSet}
+use Rattle.mt_cells.specs.declared.asks.Question.{Question}
+use Rattle.mt_cells.specs.Instances.{has_rule}
+use Rattle.mt_answer.specs.declared.texts.Text.{Text}
+use Rattle.mt_answer.specs.Answers.{IsAnswer}
 use Rattle.mint.specs.declared.status.Status.{Status}
-use Rattle.mint.specs.declared.status.Status.TheVariants.{Ok, Memory, Words, Refused, ReadFault, WriteFault}
+use Rattle.mint.specs.declared.status.Status.TheVariants.{Ok, Memory, Words, Refused, ReadFault, WriteFault, Outside}
 use Rattle.mint.specs.declared.checks.Outcome.{Outcome}
 use Rattle.mint.specs.declared.checks.Outcome.TheVariants as outcome
+use Rattle.mint.specs.declared.words.Task.{Task}
+use Rattle.mint.specs.declared.words.Task.TheVariants as task
+use Rattle.mint.specs.declared.words.Command.{Command}
 use Rattle.mint.specs.Input.{IsInput}
 use Rattle.mint.specs.Output.{Wrote, WroteFront}
 use Rattle.mint.specs.Outcomes.{IsOutcome}
 use Rattle.mint.specs.Texts.{usage_text, outcome_text}
-
--- the words that ask for a check
-abbrev pub check_words : List (List ℕ)
-check_words = codes "16,32" ∷ codes "check" ∷ []
+use Rattle.mint.specs.Words.{IsCommand}
 
 -- a claim that holds is well, and all else is refused
 abbrev pub outcome_status : Outcome → Status
@@ -21,25 +28,53 @@ outcome_status (outcome.Range name number limit) = Refused
 outcome_status (outcome.TooManyChoices count) = Refused
 outcome_status (outcome.Dependent form part choice coefficients) = Refused
 
--- the status and the output for a text, where a system may have 16 columns and 32 coordinates
-pub record IsCheck (text : List ℕ) (status : Status) (output : List ℕ) : Type 0 where
+-- the status and the output for a text within these bounds
+pub record IsCheck (b : Bounds) (text : List ℕ) (status : Status) (output : List ℕ) : Type 0 where
   pub found : Outcome
-  pub outcome_is : IsOutcome 16 32 text found
+  pub outcome_is : IsOutcome b.m_max b.s_max text found
   pub status_is : status ≡ outcome_status found
   pub output_is : output ≡ outcome_text found
 
--- the status and the output for the text on the input
-pub record IsChecked (words : List (List ℕ)) (before after : Option (List ℕ)) (status : Status) (output : List ℕ) : Type 0 where
-  pub words_are : words ≡ check_words
+-- the status and the output for the text on the input, up to its end or its 65,537th byte
+pub record IsChecked (b : Bounds) (before after : Option (List ℕ)) (status : Status) (output : List ℕ) : Type 0 where
   pub text : List ℕ
   pub input : IsInput 65537 before after text
-  pub check : IsCheck text status output
+  pub check : IsCheck b text status output
+
+-- the status and the output for a question to the table of all rules, which has no imports
+pub record IsAnswered (b : Bounds) (question : Question) (status : Status) (output : List ℕ) : Type 0 where
+  pub rules : RuleSet
+  pub all : (rule : Rule) → has_rule rules rule ≡ true
+  pub text : Text
+  pub answer : IsAnswer b rules [] question text
+  pub status_is : status ≡ cond text.outside Outside Ok
+  pub output_is : output ≡ text.bytes.items
+
+-- what a task does
+abbrev pub Does : Bounds → Task → Option (List ℕ) → Option (List ℕ) → Status → List ℕ → Type 0
+Does b task.Check before after status output = IsChecked b before after status output
+Does b (task.Ask question) before after status output = IsAnswered b question status output
+
+-- the words are a command, which is done
+pub record IsDoneBy (words : List (List ℕ)) (before after : Option (List ℕ)) (status : Status) (output : List ℕ) : Type 0 where
+  pub command : Command
+  pub is : IsCommand words command
+  pub does : Does command.bounds command.task before after status output
+
+-- the words are no command
+abbrev pub HasNoCommand : List (List ℕ) → Type 0
+HasNoCommand words = (c : Command) → ¬ IsCommand words c
+
+-- the words are none that ask for a check
+abbrev pub AsksForNoCheck : List (List ℕ) → Type 0
+AsksForNoCheck words = (c : Command) → IsCommand words c → c.task ≢ task.Check
 
 -- the status and the output of a command whose input and output do not fail
 abbrev pub IsRun : List (List ℕ) → Option (List ℕ) → Option (List ℕ) → Status → List ℕ → Type 0
-IsRun words before after Words output = (words ≢ check_words) × (output ≡ usage_text)
-IsRun words before after Ok output = IsChecked words before after Ok output
-IsRun words before after Refused output = IsChecked words before after Refused output
+IsRun words before after Words output = HasNoCommand words × (output ≡ usage_text)
+IsRun words before after Outside output = IsDoneBy words before after Outside output
+IsRun words before after Ok output = IsDoneBy words before after Ok output
+IsRun words before after Refused output = IsDoneBy words before after Refused output
 IsRun words before after Memory output = ⊥
 IsRun words before after ReadFault output = ⊥
 IsRun words before after WriteFault output = ⊥
@@ -58,9 +93,10 @@ pub record IsCut (words : List (List ℕ)) (before after written_before written_
 
 -- how a command ended, by its words, the bytes left on its input and those written on its output
 abbrev pub IsEnd : List (List ℕ) → Option (List ℕ) → Option (List ℕ) → Option (List ℕ) → Option (List ℕ) → Status → Type 0
-IsEnd words before after written_before written_after Memory = words ≡ check_words
-IsEnd words before after written_before written_after ReadFault = words ≡ check_words
+IsEnd words before after written_before written_after Memory = (c : Command) × IsCommand words c
+IsEnd words before after written_before written_after ReadFault = (c : Command) × IsCommand words c × (c.task ≡ task.Check)
 IsEnd words before after written_before written_after WriteFault = IsCut words before after written_before written_after
 IsEnd words before after written_before written_after Ok = IsDone words before after written_before written_after Ok
 IsEnd words before after written_before written_after Words = IsDone words before after written_before written_after Words
+IsEnd words before after written_before written_after Outside = IsDone words before after written_before written_after Outside
 IsEnd words before after written_before written_after Refused = IsDone words before after written_before written_after Refused

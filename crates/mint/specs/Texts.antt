@@ -7,8 +7,7 @@ use Rattle.mt_import.specs.declared.refusals.FormRefused.{FormRefused}
 use Rattle.mt_import.specs.declared.refusals.FormRefused.TheVariants.{TooLong, Line}
 use Rattle.mt_import.specs.declared.refusals.Wanted.{Wanted}
 use Rattle.mt_import.specs.declared.refusals.Wanted.TheVariants.{Header, Row, Blank}
-use Rattle.mint.specs.declared.checks.Part.{Part}
-use Rattle.mint.specs.declared.checks.Part.TheVariants.{M, S}
+use Rattle.mt_answer.specs.Texts.{part_text}
 use Rattle.mint.specs.declared.checks.Outcome.{Outcome}
 use Rattle.mint.specs.declared.checks.Outcome.TheVariants as outcome
 
@@ -25,10 +24,6 @@ abbrev pub form_text : FormRefused → List ℕ
 form_text TooLong = codes "refused: more than 65536 bytes\n"
 form_text (Line line wanted) = codes "refused: line " ++ decimal line ++ wanted_text wanted
 
-abbrev pub part_text : Part → List ℕ
-part_text M = codes "m "
-part_text S = codes "s "
-
 -- decimal numbers with commas between them
 abbrev pub listed : List ℕ → List ℕ
 listed numbers = join_with_byte 44 (map decimal numbers)
@@ -44,7 +39,7 @@ abbrev pub outcome_text : Outcome → List ℕ
 outcome_text (outcome.Holds c) = codes "holds " ++ c.name ++ 10 ∷ []
 outcome_text (outcome.Form refused) = form_text refused
 outcome_text (outcome.Range name number limit) =
-    codes "refused: " ++ part_text name ++ decimal number ++ codes " is over " ++ decimal limit ++ 10 ∷ []
+    codes "refused: " ++ part_text name ++ 32 ∷ decimal number ++ codes " is over " ++ decimal limit ++ 10 ∷ []
 outcome_text (outcome.TooManyChoices count) = codes "refused: " ++ decimal count ++ codes " choices, more than 500000\n"
 outcome_text (outcome.Dependent form part choice coefficients) =
     codes "refused: " ++ failing_part form part ++ codes "choice " ++ listed choice ++ codes " depends with " ++ listed coefficients.digits ++ 10 ∷ []

@@ -3,6 +3,7 @@ ghost use Rattle.std.specs.Prelude.{◌≡◌, ℕ, ◌<◌, ◌≤◌, List, If
 ghost use Rattle.mint.specs.Outcomes.{IsOver, IsOutcome, IsClaimOutcome};
 ghost use Rattle.mt_system.specs.Statements.{statement_of};
 
+use mt_cells::{Bounds, Part};
 use mt_import::{FormRefused, Header, ImportRefused, in_grammar, read_header, read_import};
 use mt_linear::Vector;
 use mt_strength::{Checked, Tested, choices_of};
@@ -11,15 +12,6 @@ use std::alloc::{AllocError, Global};
 
 // How many choices a check may try.
 const MOST_CHOICES: u64 = 500_000;
-
-/// A size that has a limit.
-#[derive(Clone, Copy, PartialEq, Eq, Debug)]
-pub enum Part {
-    /// The number of columns.
-    M,
-    /// The number of coordinates.
-    S,
-}
 
 /// What a check of an import text found.
 #[derive(Drop)]
@@ -48,10 +40,11 @@ pub enum Outcome {
     },
 }
 
-/// Checks an import text whose system may have `m_max` columns and `s_max` coordinates. The text is
-/// refused by its form, then by its sizes, then by the number of choices, then by its strength.
-pub fn check_text(alloc: Global, m_max: u8, s_max: u8, text: &[u8]) -> Result<Outcome, AllocError>
-    ensures { IfOk result (IsOutcome m_max s_max text.now) }
+/// Checks an import text whose system may have `m_max` columns and `s_max` coordinates of the bounds.
+/// The text is refused by its form, then by its sizes, then by the number of choices, then by its
+/// strength.
+pub fn check_text(alloc: Global, bounds: Bounds, text: &[u8]) -> Result<Outcome, AllocError>
+    ensures { IfOk result (IsOutcome bounds.m_max bounds.s_max text.now) }
 {
     if let Err(refused) = in_grammar(text) {
         return Ok(Outcome::Form(refused));
@@ -59,7 +52,7 @@ pub fn check_text(alloc: Global, m_max: u8, s_max: u8, text: &[u8]) -> Result<Ou
     let Some(header) = read_header(text) else {
         unreachable!()
     };
-    if let Some((name, number, limit)) = size_over(&header, m_max, s_max) {
+    if let Some((name, number, limit)) = size_over(&header, bounds) {
         return Ok(Outcome::Range {
             name,
             number,
@@ -74,15 +67,15 @@ pub fn check_text(alloc: Global, m_max: u8, s_max: u8, text: &[u8]) -> Result<Ou
 }
 
 // The first size of the header that is over its limit, its number and the limit.
-fn size_over(header: &Header, m_max: u8, s_max: u8) -> Option<(Part, u8, u8)>
-    ensures { MatchOption result ((header.now.m ≤ m_max) × (header.now.s ≤ s_max))
-        (λ r. IsOver m_max s_max header.now r.0 r.1 r.2) }
+fn size_over(header: &Header, bounds: Bounds) -> Option<(Part, u8, u8)>
+    ensures { MatchOption result ((header.now.m ≤ bounds.m_max) × (header.now.s ≤ bounds.s_max))
+        (λ r. IsOver bounds.m_max bounds.s_max header.now r.0 r.1 r.2) }
 {
-    if header.m > m_max as u16 {
-        return Some((Part::M, header.m.min(255) as u8, m_max));
+    if header.m > bounds.m_max as u16 {
+        return Some((Part::M, header.m.min(255) as u8, bounds.m_max));
     }
-    if header.s > s_max as u16 {
-        return Some((Part::S, header.s.min(255) as u8, s_max));
+    if header.s > bounds.s_max as u16 {
+        return Some((Part::S, header.s.min(255) as u8, bounds.s_max));
     }
     None
 }

@@ -1,25 +1,34 @@
 //! The top call.
-ghost use Rattle.std.specs.Prelude.{◌≡◌, ◌≢◌, ◌↔◌, ◌⊎◌, ℕ, List, map, string_bytes, IsTrue, IfOk, OnOk, IsErrOf};
+ghost use Rattle.std.specs.Prelude.{◌≡◌, ◌≢◌, ◌⊎◌, ℕ, ◌<◌, true, List, [], map, string_bytes, IfOk, OnOk, IsErrOf, if◌then◌else◌};
 ghost use Rattle.mt_io.specs.Faults.{Rose};
+ghost use Rattle.mt_cells.specs.declared.rules.Rule.{Rule};
+ghost use Rattle.mt_cells.specs.Instances.{has_rule};
 ghost use Rattle.mint.specs.Input.{IsInput, TakesAtMost};
 ghost use Rattle.mint.specs.Output.{Wrote, WroteFront};
-ghost use Rattle.mint.specs.Run.{check_words, outcome_status, IsCheck, IsEnd};
+ghost use Rattle.mint.specs.Run.{outcome_status, IsCheck, IsChecked, IsAnswered, Does, AsksForNoCheck, IsEnd};
 
 use crate::checks::{Outcome, check_text};
 use crate::input::{InputRefused, read_input};
 use crate::status::Status;
 use crate::texts::{USAGE, outcome_line};
+use crate::words::{Command, Task, read_words};
+use mt_answer::text;
+use mt_cells::{Bounds, Question, RuleSet, Steps};
 use mt_io::{Failed, Sink, Source};
+use mt_table::Table;
 use std::alloc::{AllocError, Global};
+use std::marker::Brand;
+use std::sync::ledger::{Blank, Ledger};
 
 // One more byte than a text may have.
 const MOST: usize = 65537;
 
 /// Does what the words ask for, with this input and output, and answers how it ended.
 ///
-/// `16,32 check` reads one import text from the input, to its end or its 65,537th byte, and writes
-/// whether its claim holds. All other words give the usage, and leave the input alone. What is
-/// written is written once the answer is known.
+/// `M,S check` reads one import text from the input, to its end or its 65,537th byte, and writes
+/// whether its claim holds. `M,S value` and a question write the greatest value that a derivation
+/// has for a cell. All other words give the usage. Only `check` touches the input. What is written
+/// is written once the answer is known.
 pub fn run_command<R: Source, W: Sink>(
     alloc: Global,
     words: &[String],
@@ -32,7 +41,7 @@ pub fn run_command<R: Source, W: Sink>(
     // Want of memory and a failed read leave the output alone, other words leave the input alone.
     ensures unwritten { (result ≡ Status.Memory) ⊎ (result ≡ Status.ReadFault)
         → output.new ≡ output.old }
-    ensures unread { map string_bytes words.now ≢ check_words → input.new ≡ input.old }
+    ensures unread { AsksForNoCheck (map string_bytes words.now) → input.new ≡ input.old }
     ensures most { TakesAtMost 65537 (R.left input.old) (R.left input.new) }
 
     // It doesn't give up by itself.
@@ -41,23 +50,13 @@ pub fn run_command<R: Source, W: Sink>(
     ensures write_fault { result ≡ Status.WriteFault
         → Rose (W.faults output.old) (W.faults output.new) }
 {
-    if !is_check(words) {
+    let Some(command) = read_words(words) else {
         return write_answer(output, Status::Words, USAGE);
-    }
-    match checked_input(alloc, input) {
+    };
+    match done(alloc, command, input) {
         Ok(answer) => write_answer(output, answer.status, &answer.text),
         Err(InputRefused::Memory) => Status::Memory,
         Err(InputRefused::Fault) => Status::ReadFault,
-    }
-}
-
-// Whether the words are `16,32 check`.
-fn is_check(words: &[String]) -> bool
-    ensures { IsTrue result ↔ (map string_bytes words.now ≡ check_words) }
-{
-    match words {
-        [bounds, command] => bounds.as_str() == "16,32" && command.as_str() == "check",
-        _ => false,
     }
 }
 
@@ -68,29 +67,78 @@ struct Answer {
     text: Vec<u8>,
 }
 
+// Does the task of a command.
+fn done<R: Source>(alloc: Global, command: Command, input: &mut R) -> Result<Answer, InputRefused>
+    ensures answer { IfOk result (λ a. Does command.bounds command.task (R.left input.old)
+        (R.left input.new) a.status a.text.items) }
+    ensures most { TakesAtMost 65537 (R.left input.old) (R.left input.new) }
+    ensures unread { command.task ≢ Task.Check → input.new ≡ input.old }
+    ensures fault { IsErrOf result InputRefused.Fault → (command.task ≡ Task.Check)
+        × Rose (R.faults input.old) (R.faults input.new) }
+{
+    match command.task {
+        Task::Check => checked_input(alloc, command.bounds, input),
+        Task::Ask(question) => Ok(answered(alloc, command.bounds, &question)?),
+    }
+}
+
 // The answer for the text on the input.
-fn checked_input<R: Source>(alloc: Global, input: &mut R) -> Result<Answer, InputRefused>
-    ensures answer { IfOk result (λ a. (text : List ℕ)
-        × IsInput 65537 (R.left input.old) (R.left input.new) text
-        × IsCheck text a.status a.text.items) }
+fn checked_input<R: Source>(
+    alloc: Global,
+    bounds: Bounds,
+    input: &mut R,
+) -> Result<Answer, InputRefused>
+    ensures answer { IfOk result (λ a. IsChecked bounds (R.left input.old) (R.left input.new)
+        a.status a.text.items) }
     ensures most { TakesAtMost 65537 (R.left input.old) (R.left input.new) }
     ensures fault { IsErrOf result InputRefused.Fault
         → Rose (R.faults input.old) (R.faults input.new) }
 {
     let text = read_input(alloc, input, MOST)?;
-    Ok(checked_text(alloc, &text)?)
+    Ok(checked_text(alloc, bounds, &text)?)
 }
 
 // The answer for a text.
-fn checked_text(alloc: Global, text: &[u8]) -> Result<Answer, AllocError>
-    ensures { IfOk result (λ a. IsCheck text.now a.status a.text.items) }
+fn checked_text(alloc: Global, bounds: Bounds, text: &[u8]) -> Result<Answer, AllocError>
+    ensures { IfOk result (λ a. IsCheck bounds text.now a.status a.text.items) }
 {
-    let found = check_text(alloc, 16, 32, text)?;
+    let found = check_text(alloc, bounds, text)?;
     let text = outcome_line(alloc, &found)?;
     Ok(Answer {
         status: status_of(&found),
         text,
     })
+}
+
+// The answer to a question, from a table made for it.
+fn answered(alloc: Global, bounds: Bounds, question: &Question) -> Result<Answer, AllocError>
+    ensures { IfOk result (λ a. IsAnswered bounds question.now a.status a.text.items) }
+{
+    let table = table_of::<Brand>(alloc, bounds, Blank::new(1))?;
+    let found = text(alloc, &table, question)?;
+    Ok(Answer {
+        status: answer_status(found.outside),
+        text: found.bytes,
+    })
+}
+
+fn answer_status(outside: bool) -> Status
+    ensures { result ≡ (if outside then Status.Outside else Status.Ok) }
+{
+    if outside { Status::Outside } else { Status::Ok }
+}
+
+// The table of all rules, whose steps nobody counts.
+fn table_of<L: Ledger>(alloc: Global, bounds: Bounds, blank: Blank) -> Result<Table, AllocError>
+    requires name { blank.name ≡ L.name }
+    requires parts { blank.parts ≡ L.parts }
+    requires some { 0 < L.parts }
+    ensures bounds { IfOk result (λ t. t.bounds ≡ bounds) }
+    ensures rules { IfOk result (λ t. (rule : Rule) → has_rule t.rules rule ≡ true) }
+    ensures list { IfOk result (λ t. t.list ≡ []) }
+{
+    let mut steps = Steps::<L>::of(blank);
+    Table::new(alloc, bounds, RuleSet::all(), &mut steps)
 }
 
 fn status_of(found: &Outcome) -> Status

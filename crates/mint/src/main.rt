@@ -8,6 +8,7 @@ mod status;
 #[cfg(test)]
 mod tests;
 mod texts;
+mod words;
 
 use command::{run_command, write_answer};
 use mt_io::{StdSink, StdSource};

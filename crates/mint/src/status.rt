@@ -17,6 +17,8 @@ pub enum Status {
     ReadFault,
     /// The output failed. A front of the text was written.
     WriteFault,
+    /// The question is outside the bounds.
+    Outside,
 }
 
 impl Status {
@@ -31,6 +33,7 @@ impl Status {
             Status::Refused => 3,
             Status::ReadFault => 4,
             Status::WriteFault => 5,
+            Status::Outside => 8,
         }
     }
 }

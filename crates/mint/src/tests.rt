@@ -83,15 +83,127 @@ fn texts_get_their_answers(rt: HostRuntime) -> Result<(), Fail> {
 }
 
 #[test]
+fn bounds_hold_for_checks(rt: HostRuntime) -> Result<(), Fail> {
+    let answer = run(rt.alloc(), &["4,8", "check"], ONE, 7)?;
+    assert_eq!(rt; answer.1.as_slice(), b"holds one\n".as_slice());
+    let wide = text_of(
+        rt.alloc(),
+        &[(b"net 2 16 16 0 wide\n", 1), (b"0000000000000000\n", 256)],
+    )?;
+    let answer = run(rt.alloc(), &["4,8", "check"], &wide, 4096)?;
+    assert_eq!(rt; answer.0, Status::Refused);
+    assert_eq!(rt;
+        answer.1.as_slice(),
+        b"refused: m 16 is over 4\n".as_slice()
+    );
+    Ok(())
+}
+
+#[test]
+fn questions_get_their_values(rt: HostRuntime) -> Result<(), Fail> {
+    let cases: [(&[&str], Status, &[u8]); 12] = [
+        (
+            &["4,8", "value", "net", "2", "3", "1"],
+            Status::Ok,
+            b"net 2 3 1: k 3, t 0, since 0, version 0\n",
+        ),
+        (
+            &["4,8", "value", "oa", "2", "3", "3"],
+            Status::Ok,
+            b"oa 2 3 3: k 3, t 0, since 0, version 0\n",
+        ),
+        (
+            &["4,8", "value", "net", "2", "3", "3"],
+            Status::Ok,
+            b"net 2 3 3: k 1, t 2, since 0, version 0\n",
+        ),
+        (
+            &["4,8", "value", "seq", "2", "3", "1"],
+            Status::Ok,
+            b"seq 2 3 1: k 0, t 3, since 0, version 0\n",
+        ),
+        (
+            &["16,32", "value", "ooa", "9", "16", "32", "7"],
+            Status::Ok,
+            b"ooa 9 16 32 7: k 1, t 15, since 0, version 0\n",
+        ),
+        (
+            &["4,8", "value", "net", "2", "5", "3"],
+            Status::Outside,
+            b"outside: m 5\n",
+        ),
+        (
+            &["4,8", "value", "net", "6", "2", "2"],
+            Status::Outside,
+            b"outside: q 6\n",
+        ),
+        (
+            &["4,8", "value", "oa", "2", "0", "9"],
+            Status::Outside,
+            b"outside: m 0\n",
+        ),
+        (
+            &["4,8", "value", "seq", "2", "4", "9"],
+            Status::Outside,
+            b"outside: s 9\n",
+        ),
+        (
+            &["4,8", "value", "ooa", "2", "3", "2", "4"],
+            Status::Outside,
+            b"outside: depth 4\n",
+        ),
+        (
+            &["4,8", "value", "ooa", "2", "3", "2", "0"],
+            Status::Outside,
+            b"outside: depth 0\n",
+        ),
+        (
+            &["4,8", "value", "net", "18446744073709551615", "3", "1"],
+            Status::Outside,
+            b"outside: q 18446744073709551615\n",
+        ),
+    ];
+    for (texts, status, line) in cases {
+        let answer = run(rt.alloc(), texts, ONE, 7)?;
+        assert_eq!(rt; answer.0, status);
+        assert_eq!(rt; answer.1.as_slice(), line);
+    }
+    Ok(())
+}
+
+#[test]
 fn other_words_get_the_usage(rt: HostRuntime) -> Result<(), Fail> {
     for texts in [
         [].as_slice(),
         &["16,32"],
         &["check"],
-        &["16,32", "frob"],
-        &["4,8", "check"],
+        &["4,8", "frob"],
         &["16,32", "check", "now"],
         &["16,32", "Check"],
+        &["0,8", "check"],
+        &["17,8", "check"],
+        &["4,0", "check"],
+        &["4,33", "check"],
+        &["04,8", "check"],
+        &["4,08", "check"],
+        &["+4,8", "check"],
+        &["4,8,", "check"],
+        &["4, 8", "check"],
+        &["4", "check"],
+        &[",", "check"],
+        &["", "check"],
+        &["4,8", "value"],
+        &["4,8", "value", "pet", "2", "3", "1"],
+        &["4,8", "value", "net", "2", "3"],
+        &["4,8", "value", "net", "2", "3", "1", "1"],
+        &["4,8", "value", "ooa", "2", "3", "1"],
+        &["4,8", "value", "ooa", "2", "3", "1", "1", "1"],
+        &["4,8", "value", "net", "02", "3", "1"],
+        &["4,8", "value", "net", "+2", "3", "1"],
+        &["4,8", "value", "net", "-2", "3", "1"],
+        &["4,8", "value", "net", "2", "", "1"],
+        &["4,8", "value", "net", "2", "3", "1 "],
+        &["4,8", "value", "net", "2", "3", "18446744073709551616"],
     ] {
         let answer = run(rt.alloc(), texts, ONE, 7)?;
         assert_eq!(rt; answer.0, Status::Words);

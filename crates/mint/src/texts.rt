@@ -1,8 +1,10 @@
 //! The texts that the program writes.
 ghost use Rattle.std.specs.Prelude.{◌≡◌, [], ◌∷◌, ◌++◌, codes, decimal, flat_map, IfOk, OnOk};
-ghost use Rattle.mint.specs.Texts.{form_text, part_text, failing_part, listed, outcome_text};
+ghost use Rattle.mt_answer.specs.Texts.{part_text};
+ghost use Rattle.mint.specs.Texts.{form_text, failing_part, listed, outcome_text};
 
-use crate::checks::{Outcome, Part};
+use crate::checks::Outcome;
+use mt_cells::Part;
 use mt_import::{FormRefused, Wanted};
 use mt_system::Form;
 use std::alloc::{AllocError, Global};
@@ -58,13 +60,16 @@ fn form_line(alloc: Global, refused: FormRefused) -> Result<Vec<u8>, AllocError>
 
 fn range_line(alloc: Global, name: Part, number: u8, limit: u8) -> Result<Vec<u8>, AllocError>
     ensures { IfOk result (λ text. text.items
-        ≡ codes "refused: " ++ part_text name ++ decimal number ++ codes " is over " ++ decimal limit ++ 10 ∷ []) }
+        ≡ codes "refused: " ++ part_text name ++ 32 ∷ decimal number ++ codes " is over " ++ decimal limit ++ 10 ∷ []) }
 {
     let mut text = Vec::from_slice(alloc, b"refused: ")?;
     text.extend_from_slice(match name {
-        Part::M => b"m ",
-        Part::S => b"s ",
+        Part::Q => b"q",
+        Part::M => b"m",
+        Part::S => b"s",
+        Part::Depth => b"depth",
     })?;
+    text.push(b' ')?;
     push_number(alloc, &mut text, number as u64)?;
     text.extend_from_slice(b" is over ")?;
     push_number(alloc, &mut text, limit as u64)?;

@@ -21,15 +21,15 @@ returns-in-Some-size_over c =
       header = import.0;
       digits = import.1;
       import = import.2;
-      over = subst (λ h. IsOver c.args.m_max c.args.s_max h size.name size.number size.limit) same size.ensures;
+      over = subst (λ h. IsOver c.args.bounds.m_max c.args.bounds.s_max h size.name size.number size.limit) same size.ensures;
     }
 
 pub read_import-requires : goal.read_import-requires
 read_import-requires c = λ h has.
     let found = c.in-Some.ensures.only h has in
     let same : c.in-Some.header ≡ h = cc in
-    let columns : h.m ≤ c.args.m_max = subst (λ g. g.m ≤ c.args.m_max) same c.in_default-size_over.ensures.0 in
-    let coordinates : h.s ≤ c.args.s_max = subst (λ g. g.s ≤ c.args.s_max) same c.in_default-size_over.ensures.1 in
+    let columns : h.m ≤ c.args.bounds.m_max = subst (λ g. g.m ≤ c.args.bounds.m_max) same c.in_default-size_over.ensures.0 in
+    let coordinates : h.s ≤ c.args.bounds.s_max = subst (λ g. g.s ≤ c.args.bounds.s_max) same c.in_default-size_over.ensures.1 in
     (omega arith, omega arith, omega (arith, has.header.header.depth_to))
 
 pub returns-in-Ok : goal.returns-in-Ok
@@ -38,8 +38,8 @@ returns-in-Ok c =
     let said = statement_of c.in-Ok.claim in
     let found = c.in-Some.ensures.only (header_of said) (HasHeader-import text (header_of said) said.system.digits c.in-Ok.ensures) in
     let same : c.in-Some.header ≡ header_of said = cc in
-    IsOutcome-claim c.args.m_max c.args.s_max text said (record {
+    IsOutcome-claim c.args.bounds.m_max c.args.bounds.s_max text said (record {
       text_of = c.in-Ok.ensures;
-      columns = subst (λ g. g.m ≤ c.args.m_max) same c.in_default-size_over.ensures.0;
-      coordinates = subst (λ g. g.s ≤ c.args.s_max) same c.in_default-size_over.ensures.1;
+      columns = subst (λ g. g.m ≤ c.args.bounds.m_max) same c.in_default-size_over.ensures.0;
+      coordinates = subst (λ g. g.s ≤ c.args.bounds.s_max) same c.in_default-size_over.ensures.1;
     }) c.check_claim.result c.check_claim.ensures

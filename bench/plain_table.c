@@ -1,0 +1,74 @@
+/* The plain program beside mint's table: it computes the same greatest values with a work list and
+   answers one question for a net. Usage: plain_table M S Q NET_M NET_S */
+#include <stdio.h>
+#include <stdlib.h>
+#include <string.h>
+
+enum { ORDERS = 7 };
+
+static const int orders[ORDERS] = {2, 3, 4, 5, 7, 8, 9};
+static int m_max, s_max, arrays, per_order;
+static unsigned char *values, *waits;
+static int from;
+
+static int array_number(int order, int m, int s, int depth) {
+    return order * per_order + s_max * (m * (m - 1) / 2) + (s - 1) * m + (depth - 1);
+}
+
+static int greatest_axiom(int m, int s, int depth) {
+    if (s == 1 && depth == m) return m;
+    if (s == m + 1 && depth == 1) return m;
+    return 1;
+}
+
+static void raise_to(int n, int k) {
+    if (values[n] >= k) return;
+    values[n] = k;
+    waits[n] = 1;
+    if (n < from) from = n;
+}
+
+/* Tries every instance that has this array as a parent. */
+static void try_array(int order, int m, int s, int depth) {
+    int k = values[array_number(order, m, s, depth)];
+    if (s >= 2) raise_to(array_number(order, m, s - 1, depth), k);
+}
+
+static void try_cell(int n) {
+    int order = n / per_order, rest = n % per_order, m = 1;
+    if (rest >= arrays) return;
+    while (rest >= s_max * m) rest -= s_max * m++;
+    try_array(order, m, rest / m + 1, rest % m + 1);
+}
+
+int main(int count, char **words) {
+    if (count != 6) return 2;
+    m_max = atoi(words[1]);
+    s_max = atoi(words[2]);
+    arrays = s_max * (m_max * (m_max + 1) / 2);
+    per_order = arrays + m_max * s_max;
+    int cells = ORDERS * per_order;
+    values = calloc(cells, 1);
+    waits = malloc(cells);
+    if (!values || !waits) return 1;
+    memset(waits, 1, cells);
+    for (int order = 0; order < ORDERS; order++)
+        for (int m = 1; m <= m_max; m++)
+            for (int s = 1; s <= s_max; s++)
+                for (int depth = 1; depth <= m; depth++)
+                    values[array_number(order, m, s, depth)] = greatest_axiom(m, s, depth);
+    while (from < cells) {
+        if (!waits[from]) {
+            from++;
+            continue;
+        }
+        waits[from] = 0;
+        try_cell(from);
+    }
+    int q = atoi(words[3]), m = atoi(words[4]), s = atoi(words[5]), order = 0;
+    while (order < ORDERS && orders[order] != q) order++;
+    if (order == ORDERS || m < 1 || m > m_max || s < 1 || s > s_max) return 8;
+    int k = values[array_number(order, m, s, m)];
+    printf("net %d %d %d: k %d, t %d, since 0, version 0\n", q, m, s, k, m - k);
+    return 0;
+}

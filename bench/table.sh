@@ -1,0 +1,56 @@
+#!/usr/bin/env bash
+# Time mint's answer to `16,32 value net 2 10 4`, for which it computes the whole table, beside a
+# plain C program that computes the same greatest values, and compare their answers.
+# Prints the milliseconds (median of 5 runs in turn, the start of the process included) and the
+# kilobytes of memory of both, and the ratio of the times; ends with status 1 if the answers differ.
+# MINT names another program to run, from the top of the repository; CC a compiler.
+cd "$(dirname "$0")/.." || exit 1
+mint=${MINT:-./mint}
+
+for compiler in ${CC:-cc gcc clang} ''; do
+    command -v "$compiler" >/dev/null 2>&1 && break
+done
+if [ -z "$compiler" ]; then
+    echo "no C compiler here: nothing compared"
+    exit 0
+fi
+work=$(mktemp -d) || exit 1
+trap 'rm -rf "$work"' EXIT
+"$compiler" -O2 -o "$work/plain" bench/plain_table.c || exit 1
+"$mint" :memory: - 16,32 value net 2 10 4 >/dev/null || exit 1
+
+exec python3 - "$mint" "$work/plain" <<'PYTHON'
+import os, subprocess, sys, time
+
+def run(words):
+    """What the program prints, its milliseconds and its greatest size in kilobytes."""
+    start = time.perf_counter()
+    child = subprocess.Popen(words, stdin=subprocess.DEVNULL, stdout=subprocess.PIPE)
+    text = child.stdout.read().decode()
+    _, status, usage = os.wait4(child.pid, 0)
+    elapsed = (time.perf_counter() - start) * 1000
+    child.returncode = os.waitstatus_to_exitcode(status)
+    return text, elapsed, usage.ru_maxrss
+
+mint, plain = sys.argv[1:]
+question = ["net", "2", "10", "4"]
+commands = {
+    "mint": [mint, ":memory:", "-", "16,32", "value"] + question,
+    "plain": [plain, "16", "32"] + question[1:],
+}
+runs = {name: [] for name in commands}
+for _ in range(5):
+    for name, words in commands.items():
+        runs[name].append(run(words))
+answers = {name: found[0][0] for name, found in runs.items()}
+if answers["mint"] != answers["plain"]:
+    print(f"the answers differ: mint {answers['mint']!r}, plain {answers['plain']!r}")
+    sys.exit(1)
+times = {name: sorted(time for _, time, _ in found)[2] for name, found in runs.items()}
+sizes = {name: max(size for _, _, size in found) for name, found in runs.items()}
+print(
+    f"table: mint {times['mint']:.1f} ms and {sizes['mint']} kB,"
+    f" plain {times['plain']:.1f} ms and {sizes['plain']} kB,"
+    f" ratio {times['mint'] / times['plain']:.2f}"
+)
+PYTHON

@@ -1,0 +1,62 @@
+-- Numbers among words.
+use Rattle.std.proofs.Common.{Bor, ◌≡◌, ◌≢◌, ℕ, ◌+◌, ◌^◌, ◌<◌, ◌≤◌, List, ◌++◌, ◌∷◌, length, get_or, decimal, ap, ap₂, sym, ◌∙◌, subst, arith, inl, inr}
+use Rattle.std.specs.Prelude.{Option, None, Some, Result, Ok, Err, MatchOption, IsSome, IfSome, ◌↔◌}
+use Rattle.std.specs.Result.{OkIff, result_ok}
+use Rattle.std.specs.Str.Parse.{AllDigits, digits_value}
+use Rattle.std.proofs.lemmas.Bool.{cases_lt, false≢true}
+use Rattle.std.proofs.lemmas.Fmt.{decimal_digit, decimal_injective, first_decimal, decimal_is_IsNumeral, decimal-digits_value}
+use Rattle.std.proofs.lemmas.Str.Parse.{IsNumeralModel, numerals_by_value, tells_digits, not_in_digits}
+use Rattle.std.proofs.lemmas.Str.Pattern.{IsSplitOnceResult, split_after}
+use Rattle.mt_cells.specs.declared.bounds.Bounds.{Bounds}
+use Rattle.mint.specs.Words.{IsPlain, bounds_word}
+
+pub own : IsNumeralModel (AllDigits 10) (digits_value 10)
+own = numerals_by_value (AllDigits 10) tells_digits
+
+pub IsPlain-decimal : (n : ℕ) → n < 2 ^ 64 → IsPlain (decimal n)
+IsPlain-decimal n l =
+    elim (cases_lt n 10) [
+      | inl one ↦ let is = decimal_digit n one in record {
+        unsigned = λ e. let first : get_or (decimal n) 0 0 ≡ 48 + n = ap (λ (ds : List ℕ). get_or ds 0 0) is in omega arith;
+        zero = λ e. ap length is;
+      }
+      | inr more ↦ let first = first_decimal n (omega arith) l in record { unsigned = λ e. omega arith; zero = λ e. absurd (omega arith) }
+    ]
+
+-- what `parse` answers for a plain word
+pub number_read : {E : Type 0} (word : List ℕ) (r : Result ℕ E) → IsPlain word → OkIff r (AllDigits 10 word × (0 < length word) × (digits_value 10 word < 2 ^ 64)) (digits_value 10 word)
+    → MatchOption (result_ok r) ((n : ℕ) → n < 2 ^ 64 → word ≢ decimal n) (λ n. (n < 2 ^ 64) × (word ≡ decimal n))
+number_read word (Ok n) plain h =
+    let digits = h.0 in
+    subst (λ k. (k < 2 ^ 64) × (word ≡ decimal k)) (sym h.1) (digits.2, sym (decimal-digits_value own word digits.0 digits.1 plain.zero digits.2))
+number_read word (Err e) plain h = λ n l is.
+    let numeral = decimal_is_IsNumeral n l in
+    h (subst (AllDigits 10) (sym is) numeral.0.1, subst (λ (ds : List ℕ). 0 < length ds) (sym is) numeral.0.0, subst (λ (ds : List ℕ). digits_value 10 ds < 2 ^ 64) (sym is) (subst (λ k. k < 2 ^ 64) (sym numeral.1) l))
+
+-- a word of bounds is cut at its comma
+pub bounds_cut : (word : List ℕ) (r : Option (Bor (List ℕ) × Bor (List ℕ))) → IsSplitOnceResult 44 word r → (b : Bounds) → word ≡ bounds_word b
+    → MatchOption r ⊥ (λ x. (x.0.now ≡ decimal b.m_max) × (x.1.now ≡ decimal b.s_max))
+bounds_cut word r cut b e =
+    let m = b.m_high in
+    let digits = (decimal_is_IsNumeral b.m_max (omega arith)).0.1 in
+    split_after 44 word (decimal b.m_max) (decimal b.s_max) r cut (omega arith) e (not_in_digits own (decimal b.m_max) 44 digits (λ range. omega (arith, range.0)))
+
+-- the numbers of the parts are those of the bounds
+pub same_bounds : (b : Bounds) (m s : ℕ) → m < 2 ^ 64 → s < 2 ^ 64 → decimal m ≡ decimal b.m_max → decimal s ≡ decimal b.s_max → (1 ≤ m) × (m ≤ 16) × (1 ≤ s) × (s ≤ 32)
+same_bounds b m s small low e f =
+    let m_high = b.m_high in
+    let s_high = b.s_high in
+    let same_m : m ≡ b.m_max = decimal_injective m b.m_max small (omega arith) e in
+    let same_s : s ≡ b.s_max = decimal_injective s b.s_max low (omega arith) f in
+    (omega (arith, b.m_low), omega arith, omega (arith, b.s_low), omega arith)
+
+-- what a word of bounds says, from its two parts
+pub bounds_read : (word front back : List ℕ) (m s : ℕ) → word ≡ front ++ 44 ∷ back → front ≡ decimal m → back ≡ decimal s → m < 2 ^ 64 → s < 2 ^ 64
+    → ((b : Bounds) → word ≡ bounds_word b → (front ≡ decimal b.m_max) × (back ≡ decimal b.s_max)) → (r : Option Bounds)
+    → (IsSome r ↔ ((1 ≤ m) × (m ≤ 16) × (1 ≤ s) × (s ≤ 32))) → IfSome r (λ b. b.m_max ≡ m) → IfSome r (λ b. b.s_max ≡ s)
+    → MatchOption r ((b : Bounds) → word ≢ bounds_word b) (λ b. word ≡ bounds_word b)
+bounds_read word front back m s whole front_is back_is small low cut None taken m_is s_is = λ b e.
+    let parts = cut b e in
+    absurd (false≢true (taken.1 (same_bounds b m s small low (sym front_is ∙ parts.0) (sym back_is ∙ parts.1))))
+bounds_read word front back m s whole front_is back_is small low cut (Some b) taken m_is s_is =
+    whole ∙ ap₂ (λ (x y : List ℕ). x ++ 44 ∷ y) (front_is ∙ ap decimal (sym m_is)) (back_is ∙ ap decimal (sym s_is))

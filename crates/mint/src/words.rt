@@ -1,0 +1,153 @@
+//! The words of the command line.
+ghost use Rattle.std.specs.Prelude.{◌≡◌, ◌≢◌, ℕ, ◌^◌, ◌<◌, ◌++◌, ◌∷◌, [], decimal, map, string_bytes, List, MatchOption, IsTrue, ◌↔◌};
+ghost use Rattle.mt_cells.specs.declared.bounds.Bounds.{Bounds};
+ghost use Rattle.mt_cells.specs.declared.asks.Kind.{Kind};
+ghost use Rattle.mt_cells.specs.declared.asks.Ask.{Ask};
+ghost use Rattle.mint.specs.declared.words.Task.{Task};
+ghost use Rattle.mint.specs.declared.words.Command.{Command};
+ghost use Rattle.mint.specs.Words.{kind_word, bounds_word, IsPlain, IsSizes, IsTask, IsCommand};
+
+use mt_cells::{Ask, Bounds, Kind, Question};
+
+/// A command, and the bounds of the table.
+#[derive(Clone, Copy, PartialEq, Eq, Debug)]
+pub struct Command {
+    pub bounds: Bounds,
+    pub task: Task,
+}
+
+/// What is to be done.
+#[derive(Clone, Copy, PartialEq, Eq, Debug)]
+pub enum Task {
+    /// Check one import text from the input.
+    Check,
+    /// Answer a question.
+    Ask(Question),
+}
+
+/// The command of these words, or `None` where they have no form:
+///
+/// - `M,S check`;
+/// - `M,S value KIND Q M S` for KIND `net`, `oa` or `seq`, and `M,S value ooa Q M S DEPTH`.
+///
+/// `M,S` are bounds. A number is decimal, without sign and without a zero in front but for `0`
+/// itself, and is below 2^64.
+pub fn read_words(words: &[String]) -> Option<Command>
+    ensures { MatchOption result
+        ((c : Command) → ¬ IsCommand (map string_bytes words.now) c)
+        (IsCommand (map string_bytes words.now)) }
+{
+    let (word, words) = first_word(words)?;
+    let bounds = read_bounds(word)?;
+    let task = read_task(words)?;
+    Some(Command { bounds, task })
+}
+
+// The first word, and the others.
+fn first_word(words: &[String]) -> Option<(&str, &[String])>
+    ensures { MatchOption result (map string_bytes words.now ≡ [])
+        (λ r. map string_bytes words.now ≡ r.0.now ∷ map string_bytes r.1.now) }
+{
+    let (word, words) = words.split_first()?;
+    Some((word.as_str(), words))
+}
+
+// The bounds of the word `M,S`.
+fn read_bounds(word: &str) -> Option<Bounds>
+    ensures { MatchOption result ((b : Bounds) → word.now ≢ bounds_word b)
+        (λ b. word.now ≡ bounds_word b) }
+{
+    let (m, s) = word.split_once(',')?;
+    Bounds::new(read_number(m)?, read_number(s)?)
+}
+
+// What the words behind the bounds ask for.
+fn read_task(words: &[String]) -> Option<Task>
+    ensures { MatchOption result ((t : Task) → ¬ IsTask (map string_bytes words.now) t)
+        (IsTask (map string_bytes words.now)) }
+{
+    let (word, words) = first_word(words)?;
+    match word {
+        "check" => {
+            if words.is_empty() {
+                Some(Task::Check)
+            } else {
+                None
+            }
+        }
+        "value" => {
+            let (word, words) = first_word(words)?;
+            let ask = read_ask(read_kind(word)?, words)?;
+            Some(Task::Ask(Question::Value(ask)))
+        }
+        _ => None,
+    }
+}
+
+fn read_kind(word: &str) -> Option<Kind>
+    ensures { MatchOption result ((k : Kind) → word.now ≢ kind_word k)
+        (λ k. word.now ≡ kind_word k) }
+{
+    match word {
+        "net" => Some(Kind::Net),
+        "oa" => Some(Kind::Oa),
+        "ooa" => Some(Kind::Ooa),
+        "seq" => Some(Kind::Seq),
+        _ => None,
+    }
+}
+
+// The question of this kind with these sizes.
+fn read_ask(kind: Kind, words: &[String]) -> Option<Ask>
+    ensures { MatchOption result ((a : Ask) → ¬ IsSizes kind (map string_bytes words.now) a)
+        (IsSizes kind (map string_bytes words.now)) }
+{
+    let (q, words) = first_number(words)?;
+    let (m, words) = first_number(words)?;
+    let (s, words) = first_number(words)?;
+    let (depth, words) = match kind {
+        Kind::Ooa => first_number(words)?,
+        Kind::Net | Kind::Oa | Kind::Seq => (0, words),
+    };
+    if !words.is_empty() {
+        return None;
+    }
+    Some(Ask {
+        kind,
+        q,
+        m,
+        s,
+        depth,
+    })
+}
+
+// The number that the first word is, and the other words.
+fn first_number(words: &[String]) -> Option<(u64, &[String])>
+    ensures { MatchOption result
+        ((n : ℕ) (rest : List (List ℕ)) → n < 2 ^ 64 → map string_bytes words.now ≢ decimal n ∷ rest)
+        (λ r. (r.0 < 2 ^ 64) × (map string_bytes words.now ≡ decimal r.0 ∷ map string_bytes r.1.now)) }
+{
+    let (word, words) = first_word(words)?;
+    Some((read_number(word)?, words))
+}
+
+// The number with these digits.
+fn read_number(word: &str) -> Option<u64>
+    ensures { MatchOption result ((n : ℕ) → n < 2 ^ 64 → word.now ≢ decimal n)
+        (λ n. (n < 2 ^ 64) × (word.now ≡ decimal n)) }
+{
+    if !is_plain(word.as_bytes()) {
+        return None;
+    }
+    word.parse().ok()
+}
+
+// Whether no plus stands first, and a zero only where it is alone.
+fn is_plain(word: &[u8]) -> bool
+    ensures { IsTrue result ↔ IsPlain word.now }
+{
+    match word {
+        [] => true,
+        [first, rest @ ..] => *first != b'+' && (*first != b'0' || rest.is_empty()),
+    }
+}

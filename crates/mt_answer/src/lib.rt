@@ -1,0 +1,9 @@
+//! Answers to questions, as the command line shows them.
+#![tactic(auto)]
+
+mod answering;
+mod lines;
+mod texts;
+
+pub use answering::text;
+pub use texts::Text;

@@ -1,0 +1,82 @@
+//! The lines of answers.
+ghost use Rattle.std.specs.Prelude.{◌≡◌, ◌∷◌, ◌++◌, codes, decimal, IfOk, OnOk};
+ghost use Rattle.mt_answer.specs.Texts.{kind_text, ask_text, value_text, part_text, outside_text};
+
+use mt_cells::{Ask, Kind, Outside, Part};
+use std::alloc::{AllocError, Global};
+
+/// The line for a value.
+pub fn value_line(
+    alloc: Global,
+    ask: &Ask,
+    k: u8,
+    since: u32,
+    version: u32,
+) -> Result<Vec<u8>, AllocError>
+    ensures { IfOk result (λ text. text.items ≡ value_text ask.now k since version) }
+{
+    let mut text = ask_line(alloc, ask)?;
+    push_labelled(alloc, &mut text, b": k ", k as u64)?;
+    push_labelled(alloc, &mut text, b", t ", ask.m.saturating_sub(k as u64))?;
+    push_labelled(alloc, &mut text, b", since ", since as u64)?;
+    push_labelled(alloc, &mut text, b", version ", version as u64)?;
+    text.push(b'\n')?;
+    Ok(text)
+}
+
+// The line for a question outside the bounds.
+pub fn outside_line(alloc: Global, outside: Outside) -> Result<Vec<u8>, AllocError>
+    ensures { IfOk result (λ text. text.items ≡ outside_text outside.name outside.number) }
+{
+    let mut text = Vec::from_slice(alloc, b"outside: ")?;
+    text.extend_from_slice(match outside.name {
+        Part::Q => b"q",
+        Part::M => b"m",
+        Part::S => b"s",
+        Part::Depth => b"depth",
+    })?;
+    push_labelled(alloc, &mut text, b" ", outside.number)?;
+    text.push(b'\n')?;
+    Ok(text)
+}
+
+// What is asked for: the kind and the sizes.
+fn ask_line(alloc: Global, ask: &Ask) -> Result<Vec<u8>, AllocError>
+    ensures { IfOk result (λ text. text.items ≡ ask_text ask.now) }
+{
+    let mut text = Vec::from_slice(alloc, kind_word(ask.kind))?;
+    push_labelled(alloc, &mut text, b" ", ask.q)?;
+    push_labelled(alloc, &mut text, b" ", ask.m)?;
+    push_labelled(alloc, &mut text, b" ", ask.s)?;
+    match ask.kind {
+        Kind::Ooa => push_labelled(alloc, &mut text, b" ", ask.depth)?,
+        Kind::Net | Kind::Oa | Kind::Seq => {}
+    }
+    Ok(text)
+}
+
+fn kind_word(kind: Kind) -> &'static [u8]
+    ensures { result.now ≡ kind_text kind }
+{
+    match kind {
+        Kind::Net => b"net",
+        Kind::Oa => b"oa",
+        Kind::Ooa => b"ooa",
+        Kind::Seq => b"seq",
+    }
+}
+
+// Adds a label, and a number in decimal.
+fn push_labelled(
+    alloc: Global,
+    text: &mut Vec<u8>,
+    label: &[u8],
+    number: u64,
+) -> Result<(), AllocError>
+    ensures { OnOk result (text.new.items ≡ text.old.items ++ (label.now ++ decimal number)) }
+{
+    let digits = format!(in alloc; "{number}")?;
+    text.extend_from_slice(label)?;
+    text.extend_from_slice(digits.as_bytes())?;
+    Ok(())
+}

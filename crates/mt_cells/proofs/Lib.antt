@@ -1,0 +1,7 @@
+pub mod Triangles
+pub mod CellLemmas
+pub mod CellSearch
+pub mod PlaceLemmas
+pub mod PickedLemmas
+pub mod ListedLemmas
+pub mod TreeLemmas

@@ -1,0 +1,11 @@
+pub mod Cells
+pub mod Laws
+pub mod Rules
+pub mod Instances
+pub mod Places
+pub mod Propositions
+pub mod Listed
+pub mod Trees
+pub mod Values
+pub mod Closed
+pub mod Asks

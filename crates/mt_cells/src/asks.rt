@@ -1,0 +1,112 @@
+//! Questions to a table.
+ghost use Rattle.std.specs.Prelude.{◌≡◌, ◌≤◌, ◌↔◌, IsTrue};
+ghost use Rattle.mt_cells.specs.Asks.{cell_by, IsFrom1, IsAnswer};
+
+use crate::bounds::Bounds;
+use crate::cells::Cell;
+use mt_linear::Order;
+
+/// The kinds of systems that are asked for.
+#[derive(Clone, Copy, PartialEq, Eq, Debug)]
+pub enum Kind {
+    /// Digital nets: arrays of depth `m`.
+    Net,
+    /// Linear orthogonal arrays: those of depth 1.
+    Oa,
+    /// Ordered orthogonal arrays of any depth.
+    Ooa,
+    /// Digital sequences.
+    Seq,
+}
+
+/// Sizes as they are asked for. `depth` is looked at for kind `Ooa` alone.
+#[derive(Clone, Copy, PartialEq, Eq, Debug)]
+pub struct Ask {
+    pub kind: Kind,
+    pub q: u64,
+    pub m: u64,
+    pub s: u64,
+    pub depth: u64,
+}
+
+/// A part of a question.
+#[derive(Clone, Copy, PartialEq, Eq, Debug)]
+pub enum Part {
+    Q,
+    M,
+    S,
+    Depth,
+}
+
+/// The first part of a question that no cell has, and its number.
+#[derive(Clone, Copy, PartialEq, Eq, Debug)]
+pub struct Outside {
+    pub name: Part,
+    pub number: u64,
+}
+
+/// What is asked of a table.
+#[derive(Clone, Copy, PartialEq, Eq, Debug)]
+pub enum Question {
+    /// The value of a cell.
+    Value(Ask),
+}
+
+impl Ask {
+    /// The cell that is asked for. It refuses the first of q, m, s and depth that no cell of the
+    /// bounds has: q is no order of a field, m is not from 1 to `m_max`, s not from 1 to `s_max`,
+    /// or depth not from 1 to m.
+    pub fn cell(&self, bounds: Bounds) -> Result<Cell, Outside>
+        ensures { IsAnswer bounds self.now result }
+    {
+        let Some(order) = Order::of_number(self.q) else {
+            return Err(Outside {
+                name: Part::Q,
+                number: self.q,
+            });
+        };
+        if !is_from_1(bounds.m_max as u64, self.m) {
+            return Err(Outside {
+                name: Part::M,
+                number: self.m,
+            });
+        }
+        if !is_from_1(bounds.s_max as u64, self.s) {
+            return Err(Outside {
+                name: Part::S,
+                number: self.s,
+            });
+        }
+        if self.kind == Kind::Ooa && !is_from_1(self.m, self.depth) {
+            return Err(Outside {
+                name: Part::Depth,
+                number: self.depth,
+            });
+        }
+        Ok(self.cell_of(order))
+    }
+
+    // The cell over a field of this order.
+    fn cell_of(&self, order: Order) -> Cell
+        requires m { self.now.m ≤ 16 }
+        requires s { self.now.s ≤ 32 }
+        requires depth { self.now.kind ≡ Kind.Ooa → self.now.depth ≤ self.now.m }
+        ensures { result ≡ cell_by self.now.kind order self.now }
+    {
+        let m = self.m as u8;
+        let s = self.s as u8;
+        let depth = match self.kind {
+            Kind::Net => m,
+            Kind::Oa => 1,
+            Kind::Ooa => self.depth as u8,
+            Kind::Seq => return Cell::Seq { order, m, s },
+        };
+        Cell::Ooa { order, m, s, depth }
+    }
+}
+
+fn is_from_1(limit: u64, n: u64) -> bool
+    ensures { IsTrue result ↔ IsFrom1 limit n }
+{
+    1 <= n && n <= limit
+}

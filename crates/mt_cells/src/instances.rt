@@ -1,0 +1,170 @@
+//! Instances of rules, and what they conclude.
+ghost use Rattle.std.specs.Prelude.{◌≡◌, ◌+◌, ◌*◌, ◌↔◌, IsTrue};
+ghost use Rattle.mt_cells.specs.Cells.{InBounds};
+ghost use Rattle.mt_cells.specs.Rules.{HasTarget, target};
+ghost use Rattle.mt_cells.specs.Instances.{conclusion_of, fan_of, IsListing};
+ghost use Rattle.mt_cells.specs.Places.{second_or, single_instance as single_of};
+
+use crate::bounds::Bounds;
+use crate::cells::Cell;
+use crate::lines::{Line, Lines, Stage, lines_of_parent};
+use crate::rules::{Rule, RuleSet};
+use crate::steps::Steps;
+use std::marker::Model;
+use std::sync::ledger::Ledger;
+
+/// A rule with its parents and its target.
+#[derive(Clone, Copy, PartialEq, Eq, Debug)]
+pub struct Instance {
+    pub rule: Rule,
+    pub target: Cell,
+    pub first: Cell,
+    pub second: Option<Cell>,
+}
+
+impl Instance {
+    /// The second parent, or the first where there is one only.
+    #[inline(always)]
+    pub fn other(&self) -> Cell
+        ensures { result ≡ second_or self.now.first self.now.second }
+    {
+        match self.second {
+            Some(cell) => cell,
+            None => self.first,
+        }
+    }
+}
+
+/// The instances of a parent, seen as the list of those that are left.
+#[derive(Drop)]
+pub struct Instances {
+    lines: Lines,
+    line: Line,
+    s: u8,
+}
+
+impl Model for Instances {
+    ghost use Rattle.std.specs.Prelude.{List};
+    ghost use Rattle.mt_cells.specs.declared.instances.Instance.{Instance};
+    ghost use Rattle.mt_cells.specs.Listed.{IsCursor, instances_left};
+
+    ghost Value = { List Instance };
+
+    ghost view = { λ a. instances_left a.lines a.line a.s };
+
+    ghost invariant = { λ a. IsCursor a.lines a.line a.s };
+}
+
+/// All instances with this parent, each once. It takes no memory.
+pub fn instances_of_parent(bounds: Bounds, rules: RuleSet, cell: Cell) -> Instances
+    requires { InBounds bounds cell }
+    ensures { IsListing bounds rules cell result }
+{
+    // An empty line before all others.
+    let line = Line {
+        stage: Stage::Fewer,
+        m: 0,
+        depth: 0,
+        first: 1,
+        last: 0,
+        skip: 0,
+    };
+    Instances {
+        lines: lines_of_parent(bounds, rules, cell),
+        line,
+        s: 1,
+    }
+}
+
+impl Iterator for Instances {
+    ghost use Rattle.std.specs.Iterator.{YieldsFirst, item_count};
+
+    type Item = Instance;
+
+    ghost next_gives = { YieldsFirst (λ left. left) };
+
+    ghost remaining = { item_count (λ left. left) };
+
+    fn next(&mut self) -> Option<Instance> {
+        loop {
+            let s = self.s;
+            if self.line.last < s {
+                self.line = self.lines.next()?;
+                self.s = self.line.first;
+            } else if s == self.line.skip {
+                self.s += 1;
+            } else {
+                self.s += 1;
+                let at = self.lines;
+                return Some(self.line.instance(at.bounds, at.rules, at.cell, s));
+            }
+        }
+    }
+}
+
+/// More instances than any cell is a parent of.
+pub fn fan(bounds: Bounds) -> u64
+    ensures { result ≡ fan_of bounds }
+{
+    8 + 4 * bounds.s_max as u64 * bounds.m_max as u64 * bounds.m_max as u64
+}
+
+/// What the instance concludes from the values of its parents, in one step. A rule with one parent
+/// does not look at `second`.
+#[inline(always)]
+pub fn conclude<L: Ledger>(instance: &Instance, first: u8, second: u8, steps: &mut Steps<L>) -> u8
+    ensures value { result ≡ conclusion_of instance.now first second }
+    ensures steps { steps.new ≡ steps.old + 1 }
+{
+    steps.tick();
+    let _ = second;
+    match (instance.rule, instance.second) {
+        (Rule::Fewer, None) => first,
+        (Rule::Fewer, Some(_)) => 0,
+    }
+}
+
+// Whether a rule with one parent has a target for it.
+#[inline(always)]
+pub(crate) fn has_target(bounds: Bounds, rule: Rule, cell: Cell) -> bool
+    ensures { IsTrue result ↔ HasTarget bounds rule cell }
+{
+    let _ = bounds;
+    match (rule, cell) {
+        (Rule::Fewer, Cell::Ooa { s, .. }) => 2 <= s,
+        (Rule::Fewer, Cell::Seq { .. }) => false,
+    }
+}
+
+// The instance of a rule with one parent.
+#[inline(always)]
+pub(crate) fn single_instance(bounds: Bounds, rule: Rule, cell: Cell) -> Instance
+    requires inside { InBounds bounds cell }
+    requires has { HasTarget bounds rule cell }
+    ensures { result ≡ single_of rule cell }
+{
+    Instance {
+        rule,
+        target: target_of(bounds, rule, cell),
+        first: cell,
+        second: None,
+    }
+}
+
+#[inline(always)]
+fn target_of(bounds: Bounds, rule: Rule, cell: Cell) -> Cell
+    requires inside { InBounds bounds cell }
+    requires has { HasTarget bounds rule cell }
+    ensures { result ≡ target rule cell }
+{
+    let _ = bounds;
+    match (rule, cell) {
+        (Rule::Fewer, Cell::Ooa { order, m, s, depth }) => Cell::Ooa {
+            order,
+            m,
+            s: s - 1,
+            depth,
+        },
+        (Rule::Fewer, Cell::Seq { .. }) => cell,
+    }
+}

@@ -1,0 +1,23 @@
+//! Cells of a table, propagation rules with their instances, and questions.
+#![tactic(auto)]
+
+mod asks;
+mod bounds;
+mod cells;
+#[cfg(test)]
+mod instance_tests;
+mod instances;
+pub mod laws;
+mod lines;
+mod rules;
+mod steps;
+#[cfg(test)]
+mod tests;
+
+pub use asks::{Ask, Kind, Outside, Part, Question};
+pub use bounds::Bounds;
+pub use cells::Cell;
+pub use instances::{Instance, Instances, conclude, fan, instances_of_parent};
+pub use lines::{Line, Lines, Stage, lines_of_parent};
+pub use rules::{Rule, RuleSet};
+pub use steps::Steps;

@@ -1,0 +1,177 @@
+//! The lines of instances of a parent.
+ghost use Rattle.std.specs.Prelude.{◌≡◌, ◌≢◌, ℕ, ◌+◌, ◌<◌, ◌≤◌, ◌⊎◌, ◌↔◌, true, IsTrue, IfSome, MatchOption};
+ghost use Rattle.mt_cells.specs.Cells.{InBounds};
+ghost use Rattle.mt_cells.specs.Rules.{HasTarget};
+ghost use Rattle.mt_cells.specs.Instances.{fan_of, has_rule};
+ghost use Rattle.mt_cells.specs.Propositions.{InBounds-prop};
+ghost use Rattle.mt_cells.specs.Places.{IsPosition, IsPlace, IsRightLine, instance_at, key, left, rank, top as top_of, width};
+
+use crate::bounds::Bounds;
+use crate::cells::Cell;
+use crate::instances::{Instance, has_target, single_instance};
+use crate::rules::{Rule, RuleSet};
+
+/// The kinds of instances that a parent has, in their order: one for each rule with one parent, and
+/// two for each rule with two, as its first parent and as its second.
+#[derive(Clone, Copy, PartialEq, Eq, Debug)]
+pub enum Stage {
+    Fewer,
+    End,
+}
+
+impl Stage {
+    fn following(self) -> Stage
+        requires { self ≢ Stage.End }
+        ensures { rank result ≡ rank self + 1 }
+    {
+        match self {
+            Stage::Fewer | Stage::End => Stage::End,
+        }
+    }
+}
+
+/// The instances of one stage whose other parent has this `m` and `depth`: its `s` goes from `first`
+/// to `last`, but for `skip`.
+///
+/// A rule with one parent has no other parent. Its line has `m` and `depth` 1, and only `s` 1.
+#[derive(Clone, Copy, Debug)]
+pub struct Line {
+    pub stage: Stage,
+    pub m: u8,
+    pub depth: u8,
+    pub first: u8,
+    pub last: u8,
+    pub skip: u8,
+}
+
+/// Where the lines of a parent go on.
+#[derive(Clone, Copy, Debug)]
+pub struct Lines {
+    pub bounds: Bounds,
+    pub rules: RuleSet,
+    pub cell: Cell,
+    pub stage: Stage,
+    pub m: u8,
+    pub depth: u8,
+    ghost inside: { InBounds bounds cell } by { InBounds-prop bounds cell },
+    ghost position: { IsPosition bounds stage m depth },
+}
+
+/// The lines of all instances with this parent.
+pub fn lines_of_parent(bounds: Bounds, rules: RuleSet, cell: Cell) -> Lines
+    requires { InBounds bounds cell }
+    ensures bounds { result.bounds ≡ bounds }
+    ensures rules { result.rules ≡ rules }
+    ensures cell { result.cell ≡ cell }
+    ensures first { (g : Stage) (m d s : ℕ) → IsPlace bounds rules cell g m d s → key result.stage result.m result.depth ≤ key g m d }
+    ensures few { left bounds result.stage result.m result.depth ≤ fan_of bounds }
+{
+    Lines {
+        bounds,
+        rules,
+        cell,
+        stage: Stage::Fewer,
+        m: 1,
+        depth: 1,
+    }
+}
+
+impl Line {
+    /// The instance of the line at this `s` of the other parent.
+    #[inline(always)]
+    pub fn instance(&self, bounds: Bounds, rules: RuleSet, cell: Cell, s: u8) -> Instance
+        requires inside { InBounds bounds cell }
+        requires place { IsPlace bounds rules cell self.now.stage self.now.m self.now.depth s }
+        ensures { result ≡ instance_at cell self.now.stage self.now.m self.now.depth s }
+    {
+        let _ = (rules, s);
+        match self.stage {
+            Stage::Fewer | Stage::End => single_instance(bounds, Rule::Fewer, cell),
+        }
+    }
+}
+
+impl Lines {
+    // Whether a rule with one parent is configured and has a target.
+    fn applies(&self, rule: Rule) -> bool
+        ensures { IsTrue result ↔ ((has_rule self.now.rules rule ≡ true) × HasTarget self.now.bounds rule self.now.cell) }
+    {
+        self.rules.has(rule) && has_target(self.bounds, rule, self.cell)
+    }
+
+    // The line at this position, which may be empty.
+    fn line(&self) -> Line
+        ensures { IsRightLine self.now.bounds self.now.rules self.now.cell self.now.stage self.now.m self.now.depth result }
+    {
+        let mut line = Line {
+            stage: self.stage,
+            m: self.m,
+            depth: self.depth,
+            first: 1,
+            last: 0,
+            skip: 0,
+        };
+        match self.stage {
+            Stage::Fewer => {
+                if self.applies(Rule::Fewer) {
+                    line.last = 1;
+                }
+            }
+            Stage::End => {}
+        }
+        line
+    }
+
+    /// The next line that is not empty.
+    pub fn next(&mut self) -> Option<Line>
+        ensures bounds { self.new.bounds ≡ self.old.bounds }
+        ensures rules { self.new.rules ≡ self.old.rules }
+        ensures cell { self.new.cell ≡ self.old.cell }
+        ensures place { IfSome result (λ l. IsPosition self.old.bounds l.stage l.m l.depth) }
+        ensures line { IfSome result (λ l. IsRightLine self.old.bounds self.old.rules self.old.cell l.stage l.m l.depth l) }
+        ensures after { IfSome result (λ l. (key self.old.stage self.old.m self.old.depth ≤ key l.stage l.m l.depth) × (key l.stage l.m l.depth < key self.new.stage self.new.m self.new.depth)) }
+        ensures few { IfSome result (λ l. (l.first ≤ l.last) × (left self.new.bounds self.new.stage self.new.m self.new.depth + l.last ≤ left self.old.bounds self.old.stage self.old.m self.old.depth)) }
+        ensures passed { (g : Stage) (m d s : ℕ) → IsPlace self.old.bounds self.old.rules self.old.cell g m d s → key self.old.stage self.old.m self.old.depth ≤ key g m d → MatchOption result ⊥ (λ l. (key g m d ≡ key l.stage l.m l.depth) ⊎ (key self.new.stage self.new.m self.new.depth ≤ key g m d)) }
+        ensures later { key self.old.stage self.old.m self.old.depth ≤ key self.new.stage self.new.m self.new.depth }
+    {
+        while self.stage != Stage::End {
+            let line = self.line();
+            self.step();
+            if line.first <= line.last {
+                return Some(line);
+            }
+        }
+        None
+    }
+
+    // To the next position. No place lies between.
+    fn step(&mut self)
+        requires { self.old.stage ≢ Stage.End }
+        ensures bounds { self.new.bounds ≡ self.old.bounds }
+        ensures rules { self.new.rules ≡ self.old.rules }
+        ensures cell { self.new.cell ≡ self.old.cell }
+        ensures few { left self.new.bounds self.new.stage self.new.m self.new.depth + width self.old.bounds self.old.stage ≤ left self.old.bounds self.old.stage self.old.m self.old.depth }
+        ensures later { key self.old.stage self.old.m self.old.depth < key self.new.stage self.new.m self.new.depth }
+        ensures none { (g : Stage) (m d s : ℕ) → IsPlace self.old.bounds self.old.rules self.old.cell g m d s → key self.old.stage self.old.m self.old.depth < key g m d → key self.new.stage self.new.m self.new.depth ≤ key g m d }
+    {
+        if self.depth < self.m {
+            self.depth += 1;
+        } else if self.m < self.top() {
+            self.m += 1;
+            self.depth = 1;
+        } else {
+            self.stage = self.stage.following();
+            self.m = 1;
+            self.depth = 1;
+        }
+    }
+
+    // The greatest `m` of the other parent.
+    fn top(&self) -> u8
+        ensures { result ≡ top_of self.now.bounds self.now.stage }
+    {
+        match self.stage {
+            Stage::Fewer | Stage::End => 1,
+        }
+    }
+}

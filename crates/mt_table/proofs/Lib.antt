@@ -1,0 +1,4 @@
+pub mod WorkLemmas
+pub mod LineLemmas
+pub mod FixedLemmas
+pub mod AxiomLemmas

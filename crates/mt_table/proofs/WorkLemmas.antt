@@ -1,0 +1,233 @@
+-- What raising a value keeps.
+use Rattle.std.proofs.Common.{◌≡◌, ℕ, suc, ◌+◌, ◌-◌, ◌*◌, ◌<◌, ◌≤◌, ◌≢◌, ◌⊎◌, ⊎_elim, inl, inr, Bool, true, false, cond, Option, Some, None, List, [], ◌∷◌, length, get_or, refl, sym, ap, ◌∙◌, arith, le_trans, get_or-set_same, get_or-set_other}
+use Rattle.std.proofs.Math.ListN.{set}
+use Rattle.std.proofs.lemmas.Bool.{cases_eq}
+use Rattle.std.proofs.lemmas.List.Sums.{sum_by-set, sum_by-cons}
+use Rattle.mt_cells.specs.declared.cells.Cell.{Cell}
+use Rattle.mt_cells.specs.declared.instances.Instance.{Instance}
+use Rattle.mt_cells.specs.Cells.{InBounds, number, cells_of}
+use Rattle.mt_cells.specs.Instances.{IsInstance, HasParent, conclusion_of}
+use Rattle.mt_cells.specs.Places.{second_or}
+use Rattle.mt_cells.specs.Closed.{second_of, IsDone}
+use Rattle.mt_cells.specs.Trees.{Entry, Tree, Concludes}
+use Rattle.mt_cells.proofs.CellLemmas.{number_below, number_apart}
+use Rattle.mt_cells.proofs.PlaceLemmas.{inside}
+use Rattle.mt_cells.proofs.TreeLemmas.{concluded}
+use Rattle.mt_table.specs.declared.work.Work.{Work}
+use Rattle.mt_table.specs.Works.{value_in, AllReached, AllDone, IsFlagged, IsIdle, IsSettled, AllSettled, sum_of, waiting, Grows, IsRaised, IsTaken, IsOver, Settles}
+
+-- ---- growth
+
+pub grows_refl : (v : Work) → Grows v v
+grows_refl v = record { bounds = refl; rules = refl; values = λ n. omega arith; flags = λ n h. h; changed = λ n. inl refl; rise = omega arith; reached = λ L h. h }
+
+pub grows_trans : (u v w : Work) → Grows u v → Grows v w → Grows u w
+grows_trans u v w a b = record {
+  bounds = b.bounds ∙ a.bounds;
+  rules = b.rules ∙ a.rules;
+  values = λ n. le_trans (a.values n) (b.values n);
+  flags = λ n h. b.flags n (a.flags n h);
+  changed = λ n. ⊎_elim
+      (λ (e : get_or w.values.items n 0 ≡ get_or v.values.items n 0). ⊎_elim
+      (λ (f : get_or v.values.items n 0 ≡ get_or u.values.items n 0). inl (e ∙ f))
+      (λ (f : get_or v.flags.items n false ≡ true). inr (b.flags n f))
+      (a.changed n))
+      (λ (e : get_or w.flags.items n false ≡ true). inr e)
+      (b.changed n);
+  rise = omega (arith, a.rise, b.rise);
+  reached = λ L h. b.reached L (a.reached L h);
+}
+
+-- a settled instance stays settled
+pub settled_grows : (v w : Work) (i : Instance) → Grows v w → IsSettled v i → IsSettled w i
+settled_grows v w i g (inl d) = rw g.bounds (⊎_elim
+    (λ (e : get_or w.values.items (number v.bounds i.first) 0 ≡ value_in v i.first). ⊎_elim
+    (λ (f : get_or w.values.items (number v.bounds (second_of i)) 0 ≡ value_in v (second_of i)). inl (rw (e, f) (le_trans d (g.values (number v.bounds i.target)))))
+    (λ (f : get_or w.flags.items (number v.bounds (second_of i)) false ≡ true). inr (inr f))
+    (g.changed (number v.bounds (second_of i))))
+    (λ (e : get_or w.flags.items (number v.bounds i.first) false ≡ true). inr (inl e))
+    (g.changed (number v.bounds i.first)))
+settled_grows v w i g (inr (inl f)) = rw g.bounds (inr (inl (g.flags _ f)))
+settled_grows v w i g (inr (inr f)) = rw g.bounds (inr (inr (g.flags _ f)))
+
+-- ---- a raise
+
+values_low : (w : Work) (c : Cell) → InBounds w.bounds c → number w.bounds c < length w.values.items
+values_low w c h = rw w.shaped.0 (number_below w.bounds c h)
+
+flags_low : (w : Work) (c : Cell) → InBounds w.bounds c → number w.bounds c < length w.flags.items
+flags_low w c h = rw w.shaped.1 (number_below w.bounds c h)
+
+raised_value : (v w : Work) (c : Cell) (k : ℕ) → InBounds v.bounds c → IsRaised v w c k → get_or w.values.items (number v.bounds c) 0 ≡ k
+raised_value v w c k h r = rw r.values (get_or-set_same v.values.items (number v.bounds c) k 0 (values_low v c h))
+
+other_value : (v w : Work) (c : Cell) (k n : ℕ) → IsRaised v w c k → n ≢ number v.bounds c → get_or w.values.items n 0 ≡ get_or v.values.items n 0
+other_value v w c k n r ne = rw r.values (get_or-set_other v.values.items (number v.bounds c) n k 0 ne)
+
+raised_flag : (v w : Work) (c : Cell) (k : ℕ) → InBounds v.bounds c → IsRaised v w c k → get_or w.flags.items (number v.bounds c) false ≡ true
+raised_flag v w c k h r = rw r.flags (get_or-set_same v.flags.items (number v.bounds c) true false (flags_low v c h))
+
+other_flag : (v w : Work) (c : Cell) (k n : ℕ) → IsRaised v w c k → n ≢ number v.bounds c → get_or w.flags.items n false ≡ get_or v.flags.items n false
+other_flag v w c k n r ne = rw r.flags (get_or-set_other v.flags.items (number v.bounds c) n true false ne)
+
+raised_rise : (v w : Work) (c : Cell) (k : ℕ) → InBounds v.bounds c → value_in v c < k → IsRaised v w c k → sum_of v.values.items + waiting w.flags.items ≤ sum_of w.values.items + waiting v.flags.items
+raised_rise v w c k h l r =
+    let n : ℕ = number v.bounds c in
+    let p : sum_of (set v.values.items n k) + get_or v.values.items n 0 ≡ sum_of v.values.items + k = sum_by-set (λ v. v) v.values.items n k 0 (values_low v c h) in
+    let q : waiting (set v.flags.items n true) + cond (get_or v.flags.items n false) 1 0 ≡ waiting v.flags.items + 1 = sum_by-set (λ f. cond f 1 0) v.flags.items n true false (flags_low v c h) in
+    rw (r.values, r.flags) (omega arith)
+
+raised_reached : (v w : Work) (i : Instance) (k : ℕ) → IsInstance v.bounds v.rules i → k ≡ conclusion_of i (value_in v i.first) (value_in v (second_of i)) → 0 < k → IsRaised v w i.target k → (L : List Entry) → AllReached v L → AllReached w L
+raised_reached v w i k h ek l r L old c x = rw (r.bounds, r.rules) (⊎_elim
+    (λ (e : number v.bounds c ≡ number v.bounds i.target). new (number_apart v.bounds c i.target y (inside v.bounds v.rules i h).0 e))
+    (λ (ne : number v.bounds c ≢ number v.bounds i.target). ((old c y).0, rw (other_value v w i.target k (number v.bounds c) r ne) (old c y).1))
+    (cases_eq (number v.bounds c) (number v.bounds i.target)))
+  where
+    y : InBounds v.bounds c
+    y = rw r.bounds at x
+
+    tree : (t : Tree) × Concludes v.bounds v.rules L t i.target (conclusion_of i (value_in v i.first) (value_in v (second_of i)))
+    tree = concluded v.bounds v.rules L i h (old i.first h.first).0 (old (second_of i) (inside v.bounds v.rules i h).1).0 (value_in v i.first) (value_in v (second_of i)) (old i.first h.first).1 (old (second_of i) (inside v.bounds v.rules i h).1).1 (rw (← ek) l)
+
+    new : c ≡ i.target → (t : Tree) × Concludes v.bounds v.rules L t c (get_or w.values.items (number v.bounds c) 0)
+    new e = rw (e, raised_value v w i.target k (inside v.bounds v.rules i h).0 r, ek) tree
+
+pub grows_raised : (v w : Work) (i : Instance) (j g k : ℕ) → IsInstance v.bounds v.rules i → j ≡ value_in v i.first → g ≡ value_in v (second_of i) → k ≡ conclusion_of i j g → value_in v i.target < k → IsRaised v w i.target k → Grows v w
+grows_raised v w i j g k h ej eg ek l r = record {
+  bounds = r.bounds;
+  rules = r.rules;
+  values = λ n. ⊎_elim
+      (λ (e : n ≡ number v.bounds i.target). rw (e, raised_value v w i.target k t r) (omega arith))
+      (λ (ne : n ≢ number v.bounds i.target). rw (other_value v w i.target k n r ne) (omega arith))
+      (cases_eq n (number v.bounds i.target));
+  flags = λ n f. ⊎_elim
+      (λ (e : n ≡ number v.bounds i.target). rw e (raised_flag v w i.target k t r))
+      (λ (ne : n ≢ number v.bounds i.target). other_flag v w i.target k n r ne ∙ f)
+      (cases_eq n (number v.bounds i.target));
+  changed = λ n. ⊎_elim
+      (λ (e : n ≡ number v.bounds i.target). inr (rw e (raised_flag v w i.target k t r)))
+      (λ (ne : n ≢ number v.bounds i.target). inl (other_value v w i.target k n r ne))
+      (cases_eq n (number v.bounds i.target));
+  rise = raised_rise v w i.target k t l r;
+  reached = raised_reached v w i k h (rw (ej, eg) at ek) (omega arith) r;
+}
+  where
+    t : InBounds v.bounds i.target
+    t = (inside v.bounds v.rules i h).0
+
+-- the instance that raised its target is settled, also where the target is a parent
+pub settled_raised : (v w : Work) (i : Instance) (j g k : ℕ) → IsInstance v.bounds v.rules i → j ≡ value_in v i.first → g ≡ value_in v (second_of i) → k ≡ conclusion_of i j g → IsRaised v w i.target k → IsSettled w i
+settled_raised v w i j g k h ej eg ek r = rw r.bounds (⊎_elim
+    (λ (e : number v.bounds i.first ≡ number v.bounds i.target). inr (inl (rw e (raised_flag v w i.target k t r))))
+    (λ (ne : number v.bounds i.first ≢ number v.bounds i.target). ⊎_elim
+    (λ (e : number v.bounds (second_of i) ≡ number v.bounds i.target). inr (inr (rw e (raised_flag v w i.target k t r))))
+    (λ (me : number v.bounds (second_of i) ≢ number v.bounds i.target). inl (rw (other_value v w i.target k (number v.bounds i.first) r ne, other_value v w i.target k (number v.bounds (second_of i)) r me, raised_value v w i.target k t r, ← ej, ← eg, ← ek) (omega arith)))
+    (cases_eq (number v.bounds (second_of i)) (number v.bounds i.target)))
+    (cases_eq (number v.bounds i.first) (number v.bounds i.target)))
+  where
+    t : InBounds v.bounds i.target
+    t = (inside v.bounds v.rules i h).0
+
+-- an instance whose conclusion is not above its target's value is done
+pub settled_low : (v : Work) (i : Instance) (j g k : ℕ) → j ≡ value_in v i.first → g ≡ value_in v (second_of i) → k ≡ conclusion_of i j g → k ≤ value_in v i.target → IsSettled v i
+settled_low v i j g k ej eg ek l = inl (rw (ek, ej, eg) at l)
+
+-- ---- a cell that is taken out
+
+second_parent : (f c : Cell) (y : Option Cell) → second_or f y ≡ c → (f ≡ c) ⊎ (y ≡ Some c)
+second_parent f c None e = inl e
+second_parent f c (Some y) e = inr (ap (λ (x : Cell). Some x) e)
+
+-- after a cell was taken out and all its instances were tried
+pub settled_after : (v u w : Work) (c : Cell) (n : ℕ) → IsTaken v u n → InBounds u.bounds c → number u.bounds c ≡ n → AllSettled v → Grows u w → ((i : Instance) → IsInstance u.bounds u.rules i → HasParent c i → IsSettled w i) → AllSettled w
+settled_after v u w c n t h en all g tried i k = go (all i kv)
+  where
+    ku : IsInstance u.bounds u.rules i
+    ku = rw (g.bounds, g.rules) at k
+
+    kv : IsInstance v.bounds v.rules i
+    kv = rw (t.bounds, t.rules) at ku
+
+    still : (e : Cell) → IsFlagged v e → number u.bounds e ≢ n → IsFlagged u e
+    still e f ne = rw t.flags (get_or-set_other v.flags.items n (number u.bounds e) false false ne ∙ rw t.bounds f)
+
+    go : IsSettled v i → IsSettled w i
+    go (inl d) = settled_grows u w i g (inl (rw (t.bounds, t.values) d))
+    go (inr (inl f)) = ⊎_elim
+        (λ (e : number u.bounds i.first ≡ n). tried i ku (inl (number_apart u.bounds i.first c ku.first h (e ∙ sym en))))
+        (λ (ne : number u.bounds i.first ≢ n). settled_grows u w i g (inr (inl (still i.first f ne))))
+        (cases_eq (number u.bounds i.first) n)
+    go (inr (inr f)) = ⊎_elim
+        (λ (e : number u.bounds (second_of i) ≡ n). tried i ku (second_parent i.first c i.second (number_apart u.bounds (second_of i) c (inside u.bounds u.rules i ku).1 h (e ∙ sym en))))
+        (λ (ne : number u.bounds (second_of i) ≢ n). settled_grows u w i g (inr (inr (still (second_of i) f ne))))
+        (cases_eq (number u.bounds (second_of i)) n)
+
+pub done_at_end : (w : Work) → AllSettled w → IsIdle w → AllDone w
+done_at_end w all idle i k = go (all i k)
+  where
+    none : (n : ℕ) → get_or w.flags.items n false ≡ true → ⊥
+    none n f = let e : get_or w.flags.items n false ≡ false = idle n in cc
+
+    go : IsSettled w i → IsDone (value_in w) i
+    go (inl d) = d
+    go (inr (inl f)) = absurd (none _ f)
+    go (inr (inr f)) = absurd (none _ f)
+
+-- ---- the measure
+
+pub sum_high : (values : List ℕ) → ((n : ℕ) → get_or values n 0 ≤ 16) → sum_of values ≤ 16 * length values
+sum_high [] h = omega arith
+sum_high (v ∷ values) h =
+    let a : sum_of values ≤ 16 * length values = sum_high values (λ n. h (suc n)) in
+    let q : v ≤ 16 = h 0 in
+    let e : sum_of (v ∷ values) ≡ v + sum_of values = sum_by-cons (λ x. x) v values in
+    omega (arith, e)
+
+taken_waiting : (flags : List Bool) (n : ℕ) → n < length flags → get_or flags n false ≡ true → waiting (set flags n false) + 1 ≡ waiting flags
+taken_waiting flags n h e =
+    let q : waiting (set flags n false) + cond (get_or flags n false) 1 0 ≡ waiting flags + 0 = sum_by-set (λ f. cond f 1 0) flags n false false h in
+    let r : cond {A = ℕ} (get_or flags n false) 1 0 ≡ 1 = rw e refl in
+    omega arith
+
+abbrev pub measure : Work → ℕ
+measure w = (16 * cells_of w.bounds - sum_of w.values.items) + waiting w.flags.items
+
+pub measure_falls : (v u w : Work) (n : ℕ) → IsTaken v u n → Grows u w → measure w < measure v
+measure_falls v u w n t g =
+    let a : sum_of u.values.items + waiting w.flags.items ≤ sum_of w.values.items + waiting u.flags.items = g.rise in
+    let b : sum_of u.values.items ≡ sum_of v.values.items = ap sum_of t.values in
+    let d : waiting u.flags.items ≡ waiting (set v.flags.items n false) = ap waiting t.flags in
+    let q : waiting (set v.flags.items n false) + 1 ≡ waiting v.flags.items = taken_waiting v.flags.items n (rw v.shaped.1 t.below) t.was in
+    let r : sum_of w.values.items ≤ 16 * length w.values.items = sum_high w.values.items w.shaped.2 in
+    let s : length w.values.items ≡ cells_of w.bounds = w.shaped.0 in
+    let e : cells_of w.bounds ≡ cells_of v.bounds = ap cells_of (g.bounds ∙ t.bounds) in
+    omega arith
+
+-- what a settling has done so far
+pub record Rises (v w : Work) : Type 0 where
+  pub bounds : w.bounds ≡ v.bounds
+  pub rules : w.rules ≡ v.rules
+  pub values : (n : ℕ) → get_or v.values.items n 0 ≤ get_or w.values.items n 0
+  pub reached : (L : List Entry) → AllReached v L → AllReached w L
+
+pub rises_step : (o v u w : Work) (n : ℕ) → Rises o v → IsTaken v u n → Grows u w → Rises o w
+rises_step o v u w n r t g = record {
+  bounds = g.bounds ∙ t.bounds ∙ r.bounds;
+  rules = g.rules ∙ t.rules ∙ r.rules;
+  values = λ k. le_trans (r.values k) (rw t.values at (g.values k));
+  reached = λ L h. g.reached L (rw (t.bounds, t.rules, t.values) (r.reached L h));
+}
+
+pub rises_refl : (v : Work) → Rises v v
+rises_refl v = record { bounds = refl; rules = refl; values = λ n. omega arith; reached = λ L h. h }
+
+-- nothing waits any more
+pub settles : (o v w : Work) → AllSettled v → Rises o v → IsOver v w → Settles o w
+settles o v w all r h = record {
+  bounds = h.bounds ∙ r.bounds;
+  rules = h.rules ∙ r.rules;
+  values = λ n. rw h.values (r.values n);
+  reached = λ L k. rw (h.bounds, h.rules, h.values) (r.reached L k);
+  done = done_at_end w (rw (h.bounds, h.rules, h.values, h.flags) all) h.idle;
+  idle = h.idle;
+}

@@ -1,0 +1,11 @@
+-- The fixed point of a table.
+use Rattle.std.specs.Prelude.{List}
+use Rattle.mt_cells.specs.Trees.{Entry}
+use Rattle.mt_cells.specs.Values.{AreValues}
+use Rattle.mt_table.specs.declared.work.Work.{Work}
+use Rattle.mt_table.specs.Works.{values_of, IsIdle}
+
+-- the values are the greatest over the list, and no cell waits
+pub record IsFixed (w : Work) (L : List Entry) : Type 0 where
+  pub values : AreValues w.bounds w.rules L (values_of w)
+  pub idle : IsIdle w

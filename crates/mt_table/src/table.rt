@@ -1,0 +1,94 @@
+//! The values of all cells over the axioms.
+use crate::work::Work;
+use mt_cells::{Bounds, Cell, RuleSet, Steps};
+use std::alloc::{AllocError, Global};
+use std::marker::Model;
+use std::sync::ledger::Ledger;
+
+/// The greatest values that derivations conclude for the cells of its bounds, by the configured rules
+/// from the axioms and the imports.
+#[derive(Drop)]
+pub struct Table {
+    work: Work,
+}
+
+impl Model for Table {
+    ghost use Rattle.std.specs.Prelude.{[]};
+    ghost use Rattle.mt_table.specs.Tables.{Contents};
+
+    ghost Value = { Contents };
+
+    ghost use Rattle.mt_table.specs.Fixed.{IsFixed};
+
+    ghost view = { λ t. record {
+      bounds = t.work.bounds;
+      rules = t.work.rules;
+      list = [];
+      values = t.work.values.items;
+    } };
+
+    ghost invariant = { λ t. IsFixed t.work [] };
+}
+
+impl Table {
+    ghost use Rattle.std.specs.Prelude.{◌≡◌, ℕ, [], length, IfOk};
+    ghost use Rattle.mt_cells.specs.Cells.{InBounds};
+    ghost use Rattle.mt_cells.specs.Trees.{IsValue};
+    ghost use Rattle.mt_cells.specs.Values.{IsScore, IsSince};
+
+    /// The table without imports. It takes all its room at once, or refuses with `AllocError`.
+    pub fn new<L: Ledger>(
+        alloc: Global,
+        bounds: Bounds,
+        rules: RuleSet,
+        steps: &mut Steps<L>,
+    ) -> Result<Table, AllocError>
+        ensures bounds { IfOk result (λ t. t.bounds ≡ bounds) }
+        ensures rules { IfOk result (λ t. t.rules ≡ rules) }
+        ensures list { IfOk result (λ t. t.list ≡ []) }
+    {
+        let mut work = Work::new(alloc, bounds, rules)?;
+        work.settle(steps);
+        Ok(Table { work })
+    }
+
+    /// The bounds of the table.
+    pub fn bounds(&self) -> Bounds
+        ensures { result ≡ self.now.bounds }
+    {
+        self.work.bounds
+    }
+
+    /// The greatest strength, or `m - t` for a sequence, that a derivation concludes for the cell.
+    pub fn value(&self, cell: Cell) -> u8
+        requires { InBounds self.now.bounds cell }
+        ensures { IsValue self.now.bounds self.now.rules self.now.list cell result }
+    {
+        self.work.value(cell)
+    }
+
+    /// The last import at which the value of the cell changed, counted from 1, or 0.
+    pub fn since(&self, cell: Cell) -> u32
+        requires { InBounds self.now.bounds cell }
+        ensures { IsSince self.now.bounds self.now.rules self.now.list cell result }
+    {
+        let _ = &self.work;
+        let _ = cell;
+        0
+    }
+
+    /// The sum of the values of all cells.
+    pub fn score(&self) -> u64
+        ensures { IsScore self.now.bounds self.now.rules self.now.list result }
+    {
+        self.work.sum()
+    }
+
+    /// How many imports were accepted.
+    pub fn version(&self) -> u32
+        ensures { result ≡ length self.now.list }
+    {
+        let _ = &self.work;
+        0
+    }
+}
