@@ -28,15 +28,38 @@ static void raise_to(int n, int k) {
     if (n < from) from = n;
 }
 
+static int sequence_number(int order, int m, int s) {
+    return order * per_order + arrays + (m - 1) * s_max + (s - 1);
+}
+
+static int below(int k) { return k > 0 ? k - 1 : 0; }
+
 /* Tries every instance that has this array as a parent. */
 static void try_array(int order, int m, int s, int depth) {
     int k = values[array_number(order, m, s, depth)];
     if (s >= 2) raise_to(array_number(order, m, s - 1, depth), k);
+    if (depth >= 2) raise_to(array_number(order, m, s, depth - 1), k);
+    if (depth < m) raise_to(array_number(order, m, s, depth + 1), k < depth ? k : depth);
+    if (m < m_max) raise_to(array_number(order, m + 1, s, depth), k);
+    if (m >= 2 && depth >= 2) raise_to(array_number(order, m - 1, s, depth - 1), below(k));
+    if (m >= 2 && s >= 2 && depth < m) raise_to(array_number(order, m - 1, s - 1, depth), below(k));
+}
+
+/* Tries every instance that has this sequence as a parent. */
+static void try_sequence(int order, int m, int s) {
+    int k = values[sequence_number(order, m, s)];
+    if (s >= 2) raise_to(sequence_number(order, m, s - 1), k);
+    if (m >= 2) raise_to(sequence_number(order, m - 1, s), below(k));
+    if (s < s_max) raise_to(array_number(order, m, s + 1, m), k);
 }
 
 static void try_cell(int n) {
     int order = n / per_order, rest = n % per_order, m = 1;
-    if (rest >= arrays) return;
+    if (rest >= arrays) {
+        rest -= arrays;
+        try_sequence(order, rest / s_max + 1, rest % s_max + 1);
+        return;
+    }
     while (rest >= s_max * m) rest -= s_max * m++;
     try_array(order, m, rest / m + 1, rest % m + 1);
 }

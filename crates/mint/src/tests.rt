@@ -3,6 +3,7 @@ use crate::command::run_command;
 use crate::status::Status;
 use mt_io::{MemorySink, MemorySource, SteadySink, SteadySource};
 use std::alloc::{AllocError, Global};
+use std::process::Abort;
 use std::test::Fail;
 
 const ONE: &[u8] = b"ooa 2 2 1 1 2 one\n10\n";
@@ -99,76 +100,73 @@ fn bounds_hold_for_checks(rt: HostRuntime) -> Result<(), Fail> {
     Ok(())
 }
 
+// Runs each question, and compares its text.
+fn assert_answers(
+    rt: &impl Abort,
+    alloc: Global,
+    status: Status,
+    cases: &[(&[&str], &[u8])],
+) -> Result<(), Fail> {
+    for (texts, line) in cases {
+        let answer = run(alloc, texts, ONE, 7)?;
+        assert_eq!(rt; answer.0, status);
+        assert_eq!(rt; answer.1.as_slice(), *line);
+    }
+    Ok(())
+}
+
 #[test]
 fn questions_get_their_values(rt: HostRuntime) -> Result<(), Fail> {
-    let cases: [(&[&str], Status, &[u8]); 12] = [
+    let cases: [(&[&str], &[u8]); 6] = [
+        (
+            &["4,8", "value", "oa", "2", "3", "4"],
+            b"oa 2 3 4: k 3, t 0, since 0, version 0\n",
+        ),
         (
             &["4,8", "value", "net", "2", "3", "1"],
-            Status::Ok,
             b"net 2 3 1: k 3, t 0, since 0, version 0\n",
         ),
         (
             &["4,8", "value", "oa", "2", "3", "3"],
-            Status::Ok,
             b"oa 2 3 3: k 3, t 0, since 0, version 0\n",
         ),
         (
             &["4,8", "value", "net", "2", "3", "3"],
-            Status::Ok,
             b"net 2 3 3: k 1, t 2, since 0, version 0\n",
         ),
         (
             &["4,8", "value", "seq", "2", "3", "1"],
-            Status::Ok,
             b"seq 2 3 1: k 0, t 3, since 0, version 0\n",
         ),
         (
             &["16,32", "value", "ooa", "9", "16", "32", "7"],
-            Status::Ok,
             b"ooa 9 16 32 7: k 1, t 15, since 0, version 0\n",
         ),
-        (
-            &["4,8", "value", "net", "2", "5", "3"],
-            Status::Outside,
-            b"outside: m 5\n",
-        ),
-        (
-            &["4,8", "value", "net", "6", "2", "2"],
-            Status::Outside,
-            b"outside: q 6\n",
-        ),
-        (
-            &["4,8", "value", "oa", "2", "0", "9"],
-            Status::Outside,
-            b"outside: m 0\n",
-        ),
-        (
-            &["4,8", "value", "seq", "2", "4", "9"],
-            Status::Outside,
-            b"outside: s 9\n",
-        ),
+    ];
+    assert_answers(&rt, rt.alloc(), Status::Ok, &cases)
+}
+
+#[test]
+fn questions_outside_name_their_part(rt: HostRuntime) -> Result<(), Fail> {
+    let cases: [(&[&str], &[u8]); 7] = [
+        (&["4,8", "value", "net", "2", "5", "3"], b"outside: m 5\n"),
+        (&["4,8", "value", "net", "6", "2", "2"], b"outside: q 6\n"),
+        (&["4,8", "value", "oa", "2", "0", "9"], b"outside: m 0\n"),
+        (&["4,8", "value", "seq", "2", "4", "9"], b"outside: s 9\n"),
         (
             &["4,8", "value", "ooa", "2", "3", "2", "4"],
-            Status::Outside,
             b"outside: depth 4\n",
         ),
         (
             &["4,8", "value", "ooa", "2", "3", "2", "0"],
-            Status::Outside,
             b"outside: depth 0\n",
         ),
         (
             &["4,8", "value", "net", "18446744073709551615", "3", "1"],
-            Status::Outside,
             b"outside: q 18446744073709551615\n",
         ),
     ];
-    for (texts, status, line) in cases {
-        let answer = run(rt.alloc(), texts, ONE, 7)?;
-        assert_eq!(rt; answer.0, status);
-        assert_eq!(rt; answer.1.as_slice(), line);
-    }
-    Ok(())
+    assert_answers(&rt, rt.alloc(), Status::Outside, &cases)
 }
 
 #[test]
@@ -248,11 +246,29 @@ fn failing_output_has_a_front(rt: HostRuntime) -> Result<(), Fail> {
     Ok(())
 }
 
-// Texts that a hostile user may send, each as parts that are repeated, with the one line that the
-// grammar gives it.
+// Checks each text, given as parts that are repeated, and compares the one line that is answered.
+fn assert_lines(
+    rt: &impl Abort,
+    alloc: Global,
+    cases: &[(&[(&[u8], usize)], &[u8])],
+) -> Result<(), Fail> {
+    for (parts, line) in cases {
+        let text = text_of(alloc, parts)?;
+        let answer = run(alloc, &["16,32", "check"], &text, 4096)?;
+        assert_eq!(rt; answer.1.as_slice(), *line);
+        let status = if line.starts_with(b"holds") {
+            Status::Ok
+        } else {
+            Status::Refused
+        };
+        assert_eq!(rt; answer.0, status);
+    }
+    Ok(())
+}
+
 #[test]
-fn hostile_texts_get_their_lines(rt: HostRuntime) -> Result<(), Fail> {
-    let cases: [(&[(&[u8], usize)], &[u8]); 29] = [
+fn texts_of_much_white_space(rt: HostRuntime) -> Result<(), Fail> {
+    let cases: [(&[(&[u8], usize)], &[u8]); 8] = [
         (&[(ONE, 1), (b"\n", 65515)], b"holds one\n"),
         (
             &[(ONE, 1), (b"\n", 65516)],
@@ -267,6 +283,13 @@ fn hostile_texts_get_their_lines(rt: HostRuntime) -> Result<(), Fail> {
             &[(b"ooa", 1), (b" ", 60000), (b"2 2 1 1 2 one\n10\n", 1)],
             b"holds one\n",
         ),
+    ];
+    assert_lines(&rt, rt.alloc(), &cases)
+}
+
+#[test]
+fn headers_of_a_hostile_user(rt: HostRuntime) -> Result<(), Fail> {
+    let cases: [(&[(&[u8], usize)], &[u8]); 7] = [
         (
             &[(b"ooa 2 2 000 1 2 one\n10\n", 1)],
             b"refused: line 1 is no header\n",
@@ -280,16 +303,31 @@ fn hostile_texts_get_their_lines(rt: HostRuntime) -> Result<(), Fail> {
             b"refused: line 1 is no header\n",
         ),
         (
-            &[(b"ooa 2 999 1 1 2 big\n", 1), (b"1", 999)],
-            b"refused: m 255 is over 16\n",
-        ),
-        (
-            &[(b"ooa 2 999 1 1 2 big\n", 1), (b"1", 998)],
-            b"refused: line 2 is no row\n",
-        ),
-        (
             &[(b"ooa 2 1000 1 1 2 big\n", 1), (b"1", 1000)],
             b"refused: line 1 is no header\n",
+        ),
+        (
+            &[(b"ooa 2 2 1 1 2 ", 1), (b"n", 41), (b"\n10\n", 1)],
+            b"refused: line 1 is no header\n",
+        ),
+        (
+            &[(b"ooa 2 2 1 3 2 deep\n10\n01\n11\n", 1)],
+            b"refused: line 1 is no header\n",
+        ),
+        (
+            &[(b"ooa 2 2 1 1 2 one\r\r\n10\n", 1)],
+            b"refused: line 1 is no header\n",
+        ),
+    ];
+    assert_lines(&rt, rt.alloc(), &cases)
+}
+
+#[test]
+fn claims_over_a_limit(rt: HostRuntime) -> Result<(), Fail> {
+    let cases: [(&[(&[u8], usize)], &[u8]); 4] = [
+        (
+            &[(b"ooa 2 999 1 1 2 big\n", 1), (b"1", 999)],
+            b"refused: m 255 is over 16\n",
         ),
         (
             &[(b"ooa 2 2 300 1 0 wide\n", 1), (b"10\n", 300)],
@@ -300,12 +338,19 @@ fn hostile_texts_get_their_lines(rt: HostRuntime) -> Result<(), Fail> {
             b"refused: s 33 is over 32\n",
         ),
         (
-            &[(b"ooa 2 2 1 1 2 ", 1), (b"n", 41), (b"\n10\n", 1)],
-            b"refused: line 1 is no header\n",
+            &[(b"net 2 16 16 0 wide\n", 1), (b"0000000000000000\n", 256)],
+            b"refused: 601080390 choices, more than 500000\n",
         ),
+    ];
+    assert_lines(&rt, rt.alloc(), &cases)
+}
+
+#[test]
+fn rows_of_a_hostile_user(rt: HostRuntime) -> Result<(), Fail> {
+    let cases: [(&[(&[u8], usize)], &[u8]); 10] = [
         (
-            &[(b"ooa 2 2 1 3 2 deep\n10\n01\n11\n", 1)],
-            b"refused: line 1 is no header\n",
+            &[(b"ooa 2 999 1 1 2 big\n", 1), (b"1", 998)],
+            b"refused: line 2 is no row\n",
         ),
         (&[(b"ooa 2 2 1 1 2 one\n\t1\t0 \n", 1)], b"holds one\n"),
         (
@@ -321,10 +366,6 @@ fn hostile_texts_get_their_lines(rt: HostRuntime) -> Result<(), Fail> {
             b"refused: line 2 is no row\n",
         ),
         (
-            &[(b"ooa 2 2 1 1 2 one\r\r\n10\n", 1)],
-            b"refused: line 1 is no header\n",
-        ),
-        (
             &[(b"ooa 2 2 1 1 2 one\n10\r\r\n", 1)],
             b"refused: line 2 is no row\n",
         ),
@@ -338,21 +379,6 @@ fn hostile_texts_get_their_lines(rt: HostRuntime) -> Result<(), Fail> {
             &[(ONE, 1), (b"\n", 2), (b"x", 1)],
             b"refused: line 5 is not blank\n",
         ),
-        (
-            &[(b"net 2 16 16 0 wide\n", 1), (b"0000000000000000\n", 256)],
-            b"refused: 601080390 choices, more than 500000\n",
-        ),
     ];
-    for (parts, line) in cases {
-        let text = text_of(rt.alloc(), parts)?;
-        let answer = run(rt.alloc(), &["16,32", "check"], &text, 4096)?;
-        assert_eq!(rt; answer.1.as_slice(), line);
-        let status = if line.starts_with(b"holds") {
-            Status::Ok
-        } else {
-            Status::Refused
-        };
-        assert_eq!(rt; answer.0, status);
-    }
-    Ok(())
+    assert_lines(&rt, rt.alloc(), &cases)
 }

@@ -1,13 +1,13 @@
 -- The instances from a place on, as a list.
-use Rattle.std.proofs.Common.{ℕ, suc, ◌≡◌, ◌+◌, ◌-◌, ◌/◌, ◌%◌, ◌≤◌, ◌<◌, ◌≢◌, ap, refl, arith, sym, ◌∙◌, ⊎_elim, ◌⊎◌, inl, inr, subst, Bool, true, false, [], ◌∷◌, length}
+use Rattle.std.proofs.Common.{leb, ℕ, suc, ◌≡◌, ◌+◌, ◌-◌, ◌/◌, ◌%◌, ◌≤◌, ◌<◌, ◌≢◌, ap, refl, arith, sym, ◌∙◌, ⊎_elim, ◌⊎◌, inl, inr, subst, Bool, true, false, [], ◌∷◌, length}
 use Rattle.std.specs.Bool.{Decides}
-use Rattle.std.proofs.lemmas.Bool.{cases_lt, cases_Bool}
-use Rattle.std.proofs.lemmas.Bool.Decides.{Decides-and, Decides-eqb, Decides-like, nat_tests}
+use Rattle.std.proofs.lemmas.Bool.{cases_lt, cases_Bool, leb-true, le-leb}
+use Rattle.std.proofs.lemmas.Bool.Decides.{Decides-and, Decides-eqb, Decides-ltb, Decides-like}
 use Rattle.mt_cells.specs.declared.bounds.Bounds.{Bounds}
 use Rattle.mt_cells.specs.declared.cells.Cell.{Cell}
 use Rattle.mt_cells.specs.declared.cells.Cell.TheVariants.{Ooa, Seq}
 use Rattle.mt_cells.specs.declared.rules.Rule.{Rule}
-use Rattle.mt_cells.specs.declared.rules.Rule.TheVariants.{Fewer}
+use Rattle.mt_cells.specs.declared.rules.Rule.TheVariants.{Fewer, Shallower, Deeper, Longer, QuotientKeep, QuotientDrop, SeqFewer, SeqCut, SeqToNet}
 use Rattle.mt_cells.specs.declared.rules.RuleSet.{RuleSet}
 use Rattle.mt_cells.specs.declared.instances.Instance.{Instance}
 use Rattle.mt_cells.specs.declared.lines.Stage.{Stage}
@@ -19,14 +19,31 @@ use Rattle.mt_cells.specs.Rules.{HasTarget}
 use Rattle.mt_cells.specs.Instances.{has_rule, IsInstance, HasParent, fan_of, IsListing}
 use Rattle.mt_cells.specs.Places.{rank, stage_of, key, place_number, end_number, IsPosition, IsSinglePlace, IsPlace, instance_at, width, left_in, left, IsRightLine}
 use Rattle.mt_cells.specs.Listed.{picked, has_target, is_single_place, is_place, is_numbered, instance_numbered, instances_from, instances_left, IsCursor}
-use Rattle.mt_cells.proofs.PlaceLemmas.{position_small, stage_back, stage_forth, key_apart, Stands, stands, holds, parent, placed, same_place, left_falls, left_high, width_fits}
+use Rattle.mt_cells.proofs.PlaceLemmas.{rule_rank_low, position_small, stage_back, stage_forth, key_apart, Stands, stands, holds, parent, placed, same_place, left_falls, left_high, width_fits}
 use Rattle.mt_cells.proofs.PickedLemmas.{picked_here, picked_skip, picked_none, picked_all, picked_each, picked_once, picked_few}
 
 -- ---- the tests
 
+-- the test of numbers decides their order
+le_decides : (a b : ℕ) → Decides (leb a b) (a ≤ b)
+le_decides a b = (leb-true a b, le-leb a b)
+
+-- what is false decides what never holds
+never_decides : Decides false ⊥
+never_decides = (λ h. cc, λ h. absurd h)
+
+-- the test of a rule's target decides whether it has one
 has_target_decides : (b : Bounds) (rule : Rule) (c : Cell) → Decides (has_target b rule c) (HasTarget b rule c)
-has_target_decides b Fewer (Ooa o m s depth) = (λ h. grind (arith, nat_tests), λ h. grind (arith, nat_tests))
-has_target_decides b Fewer (Seq o m s) = (λ h. cc, λ h. absurd h)
+has_target_decides b Fewer (Ooa o m s depth) = le_decides 2 s
+has_target_decides b Shallower (Ooa o m s depth) = le_decides 2 depth
+has_target_decides b Deeper (Ooa o m s depth) = Decides-ltb depth m
+has_target_decides b Longer (Ooa o m s depth) = Decides-ltb m b.m_max
+has_target_decides b QuotientKeep (Ooa o m s depth) = Decides-and _ _ (le_decides 2 m) (le_decides 2 depth)
+has_target_decides b QuotientDrop (Ooa o m s depth) = Decides-like _ (λ h. (h.0, h.1.0, h.1.1)) (λ h. (h.0, (h.1, h.2))) (Decides-and _ _ (le_decides 2 m) (Decides-and _ _ (le_decides 2 s) (Decides-ltb depth m)))
+has_target_decides b SeqFewer (Seq o m s) = le_decides 2 s
+has_target_decides b SeqCut (Seq o m s) = le_decides 2 m
+has_target_decides b SeqToNet (Seq o m s) = Decides-ltb s b.s_max
+has_target_decides b r c = never_decides
 
 same_decides : (x : Bool) → Decides x (x ≡ true)
 same_decides x = (λ h. h, λ h. h)
@@ -36,9 +53,10 @@ single_decides b rules rule c m d s =
     Decides-like _ (λ h. (h.0, h.1.0, h.1.1.0, h.1.1.1.0, h.1.1.1.1)) (λ h. (h.0, (h.1, (h.2, (h.3, h.4)))))
     (Decides-and _ _ (same_decides (has_rule rules rule)) (Decides-and _ _ (has_target_decides b rule c) (Decides-and _ _ (Decides-eqb m 1) (Decides-and _ _ (Decides-eqb d 1) (Decides-eqb s 1)))))
 
+-- the test of a place decides whether it holds an instance
 place_decides : (b : Bounds) (rules : RuleSet) (c : Cell) (g : Stage) (m d s : ℕ) → Decides (is_place b rules c g m d s) (IsPlace b rules c g m d s)
-place_decides b rules c stage.Fewer m d s = single_decides b rules Fewer c m d s
-place_decides b rules c stage.End m d s = (λ h. cc, λ h. absurd h)
+place_decides b rules c (stage.Single r) m d s = single_decides b rules r c m d s
+place_decides b rules c stage.End m d s = never_decides
 
 -- ---- places and their numbers
 
@@ -84,8 +102,9 @@ parts_of n g m d s a b e h =
     let r : n / 65536 ≡ rank g = omega arith in
     record { stage_is = ap stage_of r ∙ stage_back g; m_is = omega arith; d_is = omega arith; s_is = omega arith; number_is = h }
 
+-- the lines of each stage are short
 width_small : (b : Bounds) (g : Stage) → width b g < 63
-width_small b stage.Fewer = omega arith
+width_small b (stage.Single r) = omega arith
 width_small b stage.End = omega arith
 
 -- the number of a place passes the test, and gives its instance
@@ -96,12 +115,14 @@ numbered_back b rules c g m d s n h p e =
     let q = parts_of n g m d s st.m_small st.depth_small (let k : s ≤ width b g = st.high in omega arith) e in
     (rw (q.stage_is, q.m_is, q.d_is, q.s_is) ((place_decides b rules c g m d s).1 p), rw (q.stage_is, q.m_is, q.d_is, q.s_is) refl)
 
+-- no rank is above that of the end
 rank_high : (g : Stage) → rank g ≤ rank stage.End
-rank_high stage.Fewer = omega arith
+rank_high (stage.Single r) = omega (arith, rule_rank_low r)
 rank_high stage.End = omega arith
 
+-- the stage of a place comes before the end
 rank_low : (b : Bounds) (rules : RuleSet) (c : Cell) (g : Stage) (m d s : ℕ) → IsPlace b rules c g m d s → rank g < rank stage.End
-rank_low b rules c stage.Fewer m d s p = omega arith
+rank_low b rules c (stage.Single r) m d s p = rule_rank_low r
 rank_low b rules c stage.End m d s p = absurd p
 
 -- a place has a number below the end

@@ -1,11 +1,12 @@
 -- Closed values bound every tree, those that trees reach are the greatest, and a tree over a list is one over each longer list.
-use Rattle.std.proofs.Common.{◌≡◌, ℕ, ◌-◌, ◌<◌, ◌≤◌, List, ◌++◌, true, Option, None, Some, refl, sym, ap, ap₂, ◌∙◌, arith, le_trans, length-append, ⊎_elim}
+use Rattle.std.proofs.Common.{◌≡◌, ℕ, ◌-◌, ◌<◌, ◌≤◌, List, ◌++◌, true, Option, None, Some, refl, sym, ap, ap₂, ◌∙◌, arith, le_trans, length-append, ⊎_elim, subst}
 use Rattle.std.proofs.lemmas.Bool.{cases_lt}
 use Rattle.std.proofs.lemmas.List.{get_or_append_left}
 use Rattle.mt_cells.specs.declared.bounds.Bounds.{Bounds}
 use Rattle.mt_cells.specs.declared.cells.Cell.{Cell}
 use Rattle.mt_cells.specs.declared.rules.Rule.{Rule}
-use Rattle.mt_cells.specs.declared.rules.Rule.TheVariants.{Fewer}
+use Rattle.mt_cells.specs.declared.cells.Cell.TheVariants.{Ooa}
+use Rattle.mt_cells.specs.declared.rules.Rule.TheVariants.{Deeper, QuotientKeep, QuotientDrop, SeqCut}
 use Rattle.mt_cells.specs.declared.rules.RuleSet.{RuleSet}
 use Rattle.mt_cells.specs.declared.instances.Instance.{Instance}
 use Rattle.mt_cells.specs.Cells.{InBounds}
@@ -17,31 +18,51 @@ use Rattle.mt_cells.specs.Trees.{Entry, no_entry, Tree, axiom_at, imported, one,
 
 -- ---- by rule
 
+-- a greater value of the parent concludes no less
 pub conclusion_mono : (r : Rule) (p : Cell) (j k : ℕ) → j ≤ k → conclusion r p j ≤ conclusion r p k
-conclusion_mono Fewer p j k h = h
+conclusion_mono Deeper (Ooa o m s depth) j k h = omega arith
+conclusion_mono QuotientKeep p j k h = omega arith
+conclusion_mono QuotientDrop p j k h = omega arith
+conclusion_mono SeqCut p j k h = omega arith
+conclusion_mono r p j k h = h
 
+-- greater values of the parents conclude no less
 pub pair_mono : (r : Rule) (p q : Cell) (j k g l : ℕ) → j ≤ k → g ≤ l → pair_conclusion r p q j g ≤ pair_conclusion r p q k l
-pair_mono Fewer p q j k g l h i = omega arith
+pair_mono r p q j k g l h i = omega arith
 
 -- a derivation goes on from a parent whose conclusion is more than nothing
 pub conclusion_least : (r : Rule) (p : Cell) (k : ℕ) → 0 < conclusion r p k → least_parent r ≤ k
-conclusion_least Fewer p k h = omega arith
+conclusion_least QuotientKeep p k h = omega arith
+conclusion_least QuotientDrop p k h = omega arith
+conclusion_least SeqCut p k h = omega arith
+conclusion_least r p k h = omega arith
 
-pub conclusion_high : (r : Rule) (p : Cell) (k : ℕ) → k ≤ 16 → conclusion r p k ≤ 16
-conclusion_high Fewer p k h = h
+-- a conclusion is no more than the value of the parent
+pub conclusion_low : (r : Rule) (p : Cell) (k : ℕ) → conclusion r p k ≤ k
+conclusion_low Deeper (Ooa o m s depth) k = omega arith
+conclusion_low QuotientKeep p k = omega arith
+conclusion_low QuotientDrop p k = omega arith
+conclusion_low SeqCut p k = omega arith
+conclusion_low r p k = omega arith
 
+-- a conclusion from two parents is at most 16 where their values are
 pub pair_high : (r : Rule) (p q : Cell) (j k : ℕ) → j ≤ 16 → k ≤ 16 → pair_conclusion r p q j k ≤ 16
-pair_high Fewer p q j k h i = omega arith
+pair_high r p q j k h i = omega arith
+
+-- equal parents have the same target
+pair_moved : (b : Bounds) (r : Rule) {p p' q q' : Cell} → p ≡ p' → q ≡ q' → HasPairTarget b r p' q' → HasPairTarget b r p q
+pair_moved b r {p' = p'} {q = q} e f h = subst (λ x. HasPairTarget b r x q) (sym e) (subst (λ x. HasPairTarget b r p' x) (sym f) h)
 
 -- ---- instances
 
+-- a conclusion is at most 16 where the values of the parents are
 pub high_by : (r : Rule) (p : Cell) (q : Option Cell) (j k : ℕ) → j ≤ 16 → k ≤ 16 → conclusion_by r p q j k ≤ 16
-high_by r p None j k h i = conclusion_high r p j h
+high_by r p None j k h i = le_trans (conclusion_low r p j) h
 high_by r p (Some q) j k h i = pair_high r p q j k h i
 
 concluded_by : (b : Bounds) (rules : RuleSet) (L : List Entry) (r : Rule) (g p : Cell) (q : Option Cell) → has_rule rules r ≡ true → InBounds b p → Leads b r g p q → (t u : Tree) (j k : ℕ) → Concludes b rules L t p j → Concludes b rules L u (second_or p q) k → 0 < conclusion_by r p q j k → (x : Tree) × Concludes b rules L x g (conclusion_by r p q j k)
 concluded_by b rules L r g p None c h d t u j k x y l = (one r t, ((x.0, c, rw x.1 h, rw x.1 d.0, rw x.2 (conclusion_least r p j l)), ap (target r) x.1 ∙ sym d.1, ap₂ (conclusion r) x.1 x.2))
-concluded_by b rules L r g p (Some q) c h d t u j k x y l = (two r t u, ((x.0, y.0, c, rw x.1 h, rw y.1 d.0, rw (x.1, y.1) d.1), ap₂ (pair_target r) x.1 y.1 ∙ sym d.2, cc (x.1, x.2, y.1, y.2)))
+concluded_by b rules L r g p (Some q) c h d t u j k x y l = (two r t u, ((x.0, y.0, c, rw x.1 h, rw y.1 d.0, pair_moved b r x.1 y.1 d.1), ap₂ (pair_target r) x.1 y.1 ∙ sym d.2, cc (x.1, x.2, y.1, y.2)))
 
 -- the tree of an instance over trees of its parents
 pub concluded : (b : Bounds) (rules : RuleSet) (L : List Entry) (i : Instance) → IsInstance b rules i → (t u : Tree) (j k : ℕ) → Concludes b rules L t i.first j → Concludes b rules L u (second_of i) k → 0 < conclusion_of i j k → (x : Tree) × Concludes b rules L x i.target (conclusion_of i j k)
@@ -79,7 +100,7 @@ one_closed b rules L r p v u g i j x y = ⊎_elim
 
 pub two_closed : (b : Bounds) (rules : RuleSet) (L : List Entry) (r : Rule) (p q : Cell) (v w u : ℕ) → has_rule rules r ≡ true → InBounds b p → InBounds b q → HasPairTarget b r p q → IsValue b rules L p v → IsValue b rules L q w → IsValue b rules L (pair_target r p q) u → pair_conclusion r p q v w ≤ u
 two_closed b rules L r p q v w u g i j k x y z = z.greatest (two r x.tree y.tree) (pair_conclusion r p q v w)
-    ((x.reached.0, y.reached.0, g, rw x.reached.1 i, rw y.reached.1 j, rw (x.reached.1, y.reached.1) k), ap₂ (pair_target r) x.reached.1 y.reached.1, cc (x.reached.1, x.reached.2, y.reached.1, y.reached.2))
+    ((x.reached.0, y.reached.0, g, rw x.reached.1 i, rw y.reached.1 j, pair_moved b r x.reached.1 y.reached.1 k), ap₂ (pair_target r) x.reached.1 y.reached.1, cc (x.reached.1, x.reached.2, y.reached.1, y.reached.2))
 
 -- ---- longer lists
 
@@ -99,7 +120,7 @@ pub longer_tree : (b : Bounds) (rules : RuleSet) (L M : List Entry) (t : Tree) �
 longer_tree b rules L M (axiom_at x c) h = h
 longer_tree b rules L M (imported n) h = (h.0, omega (arith, length-append L M))
 longer_tree b rules L M (one r t) (h, g, i, j, l) = (longer_tree b rules L M t h, g, rw (longer_cell b rules L M t h) i, rw (longer_cell b rules L M t h) j, rw (longer_value b rules L M t h) l)
-longer_tree b rules L M (two r t u) (h, k, g, i, j, l) = (longer_tree b rules L M t h, longer_tree b rules L M u k, g, rw (longer_cell b rules L M t h) i, rw (longer_cell b rules L M u k) j, rw (longer_cell b rules L M t h, longer_cell b rules L M u k) l)
+longer_tree b rules L M (two r t u) (h, k, g, i, j, l) = (longer_tree b rules L M t h, longer_tree b rules L M u k, g, rw (longer_cell b rules L M t h) i, rw (longer_cell b rules L M u k) j, pair_moved b r (longer_cell b rules L M t h) (longer_cell b rules L M u k) l)
 
 pub longer_concludes : (b : Bounds) (rules : RuleSet) (L M : List Entry) (t : Tree) (c : Cell) (k : ℕ) → Concludes b rules L t c k → Concludes b rules (L ++ M) t c k
 longer_concludes b rules L M t c k (h, i, j) = (longer_tree b rules L M t h, longer_cell b rules L M t h ∙ i, longer_value b rules L M t h ∙ j)

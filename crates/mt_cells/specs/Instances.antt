@@ -3,7 +3,7 @@ use Rattle.std.specs.Prelude.{◌≡◌, ◌≢◌, ℕ, ◌+◌, ◌*◌, ◌�
 use Rattle.mt_cells.specs.declared.bounds.Bounds.{Bounds}
 use Rattle.mt_cells.specs.declared.cells.Cell.{Cell}
 use Rattle.mt_cells.specs.declared.rules.Rule.{Rule}
-use Rattle.mt_cells.specs.declared.rules.Rule.TheVariants.{Fewer}
+use Rattle.mt_cells.specs.declared.rules.Rule.TheVariants.{Fewer, Shallower, Deeper, Longer, QuotientKeep, QuotientDrop, SeqFewer, SeqCut, SeqToNet}
 use Rattle.mt_cells.specs.declared.rules.RuleSet.{RuleSet}
 use Rattle.mt_cells.specs.declared.instances.Instance.{Instance}
 use Rattle.mt_cells.specs.Cells.{InBounds}
@@ -12,6 +12,14 @@ use Rattle.mt_cells.specs.Rules.{HasTarget, target, conclusion, HasPairTarget, p
 -- the rule is among those of a table
 abbrev pub has_rule : RuleSet → Rule → Bool
 has_rule rules Fewer = rules.fewer
+has_rule rules Shallower = rules.shallower
+has_rule rules Deeper = rules.deeper
+has_rule rules Longer = rules.longer
+has_rule rules QuotientKeep = rules.quotient_keep
+has_rule rules QuotientDrop = rules.quotient_drop
+has_rule rules SeqFewer = rules.seq_fewer
+has_rule rules SeqCut = rules.seq_cut
+has_rule rules SeqToNet = rules.seq_to_net
 
 -- the rule leads from its parents, which are cells of the bounds, to the target
 abbrev pub Leads : Bounds → Rule → Cell → Cell → Option Cell → Type 0

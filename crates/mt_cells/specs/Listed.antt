@@ -1,10 +1,10 @@
 -- The list of a parent's instances from a place on.
-use Rattle.std.specs.Prelude.{ℕ, zero, suc, ◌+◌, ◌-◌, ◌/◌, ◌%◌, ◌<◌, ◌≤◌, Bool, false, ◌&&◌, eqb, leb, cond, List, [], ◌∷◌}
+use Rattle.std.specs.Prelude.{ℕ, zero, suc, ◌+◌, ◌-◌, ◌/◌, ◌%◌, ◌<◌, ◌≤◌, Bool, false, ◌&&◌, eqb, leb, ltb, cond, List, [], ◌∷◌}
 use Rattle.mt_cells.specs.declared.bounds.Bounds.{Bounds}
 use Rattle.mt_cells.specs.declared.cells.Cell.{Cell}
 use Rattle.mt_cells.specs.declared.cells.Cell.TheVariants.{Ooa, Seq}
 use Rattle.mt_cells.specs.declared.rules.Rule.{Rule}
-use Rattle.mt_cells.specs.declared.rules.Rule.TheVariants.{Fewer}
+use Rattle.mt_cells.specs.declared.rules.Rule.TheVariants.{Fewer, Shallower, Deeper, Longer, QuotientKeep, QuotientDrop, SeqFewer, SeqCut, SeqToNet}
 use Rattle.mt_cells.specs.declared.rules.RuleSet.{RuleSet}
 use Rattle.mt_cells.specs.declared.instances.Instance.{Instance}
 use Rattle.mt_cells.specs.declared.lines.Stage.{Stage}
@@ -22,13 +22,21 @@ picked p f (suc n) start = cond (p start) (f start ∷ picked p f n (start + 1))
 -- the tests of `HasTarget` and `IsPlace`
 abbrev pub has_target : Bounds → Rule → Cell → Bool
 has_target b Fewer (Ooa o m s depth) = leb 2 s
-has_target b Fewer (Seq o m s) = false
+has_target b Shallower (Ooa o m s depth) = leb 2 depth
+has_target b Deeper (Ooa o m s depth) = ltb depth m
+has_target b Longer (Ooa o m s depth) = ltb m b.m_max
+has_target b QuotientKeep (Ooa o m s depth) = leb 2 m && leb 2 depth
+has_target b QuotientDrop (Ooa o m s depth) = leb 2 m && (leb 2 s && ltb depth m)
+has_target b SeqFewer (Seq o m s) = leb 2 s
+has_target b SeqCut (Seq o m s) = leb 2 m
+has_target b SeqToNet (Seq o m s) = ltb s b.s_max
+has_target b r c = false
 
 abbrev pub is_single_place : Bounds → RuleSet → Rule → Cell → ℕ → ℕ → ℕ → Bool
 is_single_place b rules rule c m d s = has_rule rules rule && (has_target b rule c && (eqb m 1 && (eqb d 1 && eqb s 1)))
 
 abbrev pub is_place : Bounds → RuleSet → Cell → Stage → ℕ → ℕ → ℕ → Bool
-is_place b rules c stage.Fewer m d s = is_single_place b rules Fewer c m d s
+is_place b rules c (stage.Single rule) m d s = is_single_place b rules rule c m d s
 is_place b rules c stage.End m d s = false
 
 -- the place of a number

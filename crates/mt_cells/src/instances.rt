@@ -1,7 +1,7 @@
 //! Instances of rules, and what they conclude.
 ghost use Rattle.std.specs.Prelude.{◌≡◌, ◌+◌, ◌*◌, ◌↔◌, IsTrue};
 ghost use Rattle.mt_cells.specs.Cells.{InBounds};
-ghost use Rattle.mt_cells.specs.Rules.{HasTarget, target};
+ghost use Rattle.mt_cells.specs.Rules.{HasTarget, target, conclusion};
 ghost use Rattle.mt_cells.specs.Instances.{conclusion_of, fan_of, IsListing};
 ghost use Rattle.mt_cells.specs.Places.{second_or, single_instance as single_of};
 
@@ -10,6 +10,7 @@ use crate::cells::Cell;
 use crate::lines::{Line, Lines, Stage, lines_of_parent};
 use crate::rules::{Rule, RuleSet};
 use crate::steps::Steps;
+use mt_linear::Order;
 use std::marker::Model;
 use std::sync::ledger::Ledger;
 
@@ -62,7 +63,7 @@ pub fn instances_of_parent(bounds: Bounds, rules: RuleSet, cell: Cell) -> Instan
 {
     // An empty line before all others.
     let line = Line {
-        stage: Stage::Fewer,
+        stage: Stage::Single(Rule::Fewer),
         m: 0,
         depth: 0,
         first: 1,
@@ -118,9 +119,24 @@ pub fn conclude<L: Ledger>(instance: &Instance, first: u8, second: u8, steps: &m
 {
     steps.tick();
     let _ = second;
-    match (instance.rule, instance.second) {
-        (Rule::Fewer, None) => first,
-        (Rule::Fewer, Some(_)) => 0,
+    match instance.second {
+        None => single_conclusion(instance.rule, instance.first, first),
+        Some(_) => 0,
+    }
+}
+
+// What a rule with one parent concludes from its value.
+#[inline(always)]
+fn single_conclusion(rule: Rule, parent: Cell, k: u8) -> u8
+    ensures { result ≡ conclusion rule parent k }
+{
+    match rule {
+        Rule::Deeper => match parent {
+            Cell::Ooa { depth, .. } => k.min(depth),
+            Cell::Seq { .. } => k,
+        },
+        Rule::QuotientKeep | Rule::QuotientDrop | Rule::SeqCut => k.saturating_sub(1),
+        Rule::Fewer | Rule::Shallower | Rule::Longer | Rule::SeqFewer | Rule::SeqToNet => k,
     }
 }
 
@@ -129,10 +145,23 @@ pub fn conclude<L: Ledger>(instance: &Instance, first: u8, second: u8, steps: &m
 pub(crate) fn has_target(bounds: Bounds, rule: Rule, cell: Cell) -> bool
     ensures { IsTrue result ↔ HasTarget bounds rule cell }
 {
-    let _ = bounds;
-    match (rule, cell) {
-        (Rule::Fewer, Cell::Ooa { s, .. }) => 2 <= s,
-        (Rule::Fewer, Cell::Seq { .. }) => false,
+    match cell {
+        Cell::Ooa { m, s, depth, .. } => match rule {
+            Rule::Fewer => 2 <= s,
+            Rule::Shallower => 2 <= depth,
+            Rule::Deeper => depth < m,
+            Rule::Longer => m < bounds.m_max,
+            Rule::QuotientKeep => 2 <= m && 2 <= depth,
+            Rule::QuotientDrop => 2 <= m && 2 <= s && depth < m,
+            Rule::SeqFewer | Rule::SeqCut | Rule::SeqToNet => false,
+        },
+        Cell::Seq { m, s, .. } => match rule {
+            Rule::SeqFewer => 2 <= s,
+            Rule::SeqCut => 2 <= m,
+            Rule::SeqToNet => s < bounds.s_max,
+            Rule::Fewer | Rule::Shallower | Rule::Deeper => false,
+            Rule::Longer | Rule::QuotientKeep | Rule::QuotientDrop => false,
+        },
     }
 }
 
@@ -158,13 +187,29 @@ fn target_of(bounds: Bounds, rule: Rule, cell: Cell) -> Cell
     ensures { result ≡ target rule cell }
 {
     let _ = bounds;
-    match (rule, cell) {
-        (Rule::Fewer, Cell::Ooa { order, m, s, depth }) => Cell::Ooa {
-            order,
-            m,
-            s: s - 1,
-            depth,
+    match cell {
+        Cell::Ooa { order, m, s, depth } => match rule {
+            Rule::Fewer => array(order, m, s - 1, depth),
+            Rule::Shallower => array(order, m, s, depth - 1),
+            Rule::Deeper => array(order, m, s, depth + 1),
+            Rule::Longer => array(order, m + 1, s, depth),
+            Rule::QuotientKeep => array(order, m - 1, s, depth - 1),
+            Rule::QuotientDrop => array(order, m - 1, s - 1, depth),
+            Rule::SeqFewer | Rule::SeqCut | Rule::SeqToNet => cell,
         },
-        (Rule::Fewer, Cell::Seq { .. }) => cell,
+        Cell::Seq { order, m, s } => match rule {
+            Rule::SeqFewer => Cell::Seq { order, m, s: s - 1 },
+            Rule::SeqCut => Cell::Seq { order, m: m - 1, s },
+            Rule::SeqToNet => array(order, m, s + 1, m),
+            Rule::Fewer | Rule::Shallower | Rule::Deeper => cell,
+            Rule::Longer | Rule::QuotientKeep | Rule::QuotientDrop => cell,
+        },
     }
+}
+
+#[inline(always)]
+fn array(order: Order, m: u8, s: u8, depth: u8) -> Cell
+    ensures { result ≡ Cell.Ooa order m s depth }
+{
+    Cell::Ooa { order, m, s, depth }
 }

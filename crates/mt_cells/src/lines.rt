@@ -11,11 +11,11 @@ use crate::cells::Cell;
 use crate::instances::{Instance, has_target, single_instance};
 use crate::rules::{Rule, RuleSet};
 
-/// The kinds of instances that a parent has, in their order: one for each rule with one parent, and
-/// two for each rule with two, as its first parent and as its second.
+/// The kinds of instances that a parent has, in their order.
 #[derive(Clone, Copy, PartialEq, Eq, Debug)]
 pub enum Stage {
-    Fewer,
+    /// The instance of a rule with one parent.
+    Single(Rule),
     End,
 }
 
@@ -25,7 +25,15 @@ impl Stage {
         ensures { rank result ≡ rank self + 1 }
     {
         match self {
-            Stage::Fewer | Stage::End => Stage::End,
+            Stage::Single(Rule::Fewer) => Stage::Single(Rule::Shallower),
+            Stage::Single(Rule::Shallower) => Stage::Single(Rule::Deeper),
+            Stage::Single(Rule::Deeper) => Stage::Single(Rule::Longer),
+            Stage::Single(Rule::Longer) => Stage::Single(Rule::QuotientKeep),
+            Stage::Single(Rule::QuotientKeep) => Stage::Single(Rule::QuotientDrop),
+            Stage::Single(Rule::QuotientDrop) => Stage::Single(Rule::SeqFewer),
+            Stage::Single(Rule::SeqFewer) => Stage::Single(Rule::SeqCut),
+            Stage::Single(Rule::SeqCut) => Stage::Single(Rule::SeqToNet),
+            Stage::Single(Rule::SeqToNet) | Stage::End => Stage::End,
         }
     }
 }
@@ -63,14 +71,15 @@ pub fn lines_of_parent(bounds: Bounds, rules: RuleSet, cell: Cell) -> Lines
     ensures bounds { result.bounds ≡ bounds }
     ensures rules { result.rules ≡ rules }
     ensures cell { result.cell ≡ cell }
-    ensures first { (g : Stage) (m d s : ℕ) → IsPlace bounds rules cell g m d s → key result.stage result.m result.depth ≤ key g m d }
+    ensures first { (g : Stage) (m d s : ℕ) → IsPlace bounds rules cell g m d s
+        → key result.stage result.m result.depth ≤ key g m d }
     ensures few { left bounds result.stage result.m result.depth ≤ fan_of bounds }
 {
     Lines {
         bounds,
         rules,
         cell,
-        stage: Stage::Fewer,
+        stage: Stage::Single(Rule::Fewer),
         m: 1,
         depth: 1,
     }
@@ -86,7 +95,8 @@ impl Line {
     {
         let _ = (rules, s);
         match self.stage {
-            Stage::Fewer | Stage::End => single_instance(bounds, Rule::Fewer, cell),
+            Stage::Single(rule) => single_instance(bounds, rule, cell),
+            Stage::End => single_instance(bounds, Rule::Fewer, cell),
         }
     }
 }
@@ -94,14 +104,16 @@ impl Line {
 impl Lines {
     // Whether a rule with one parent is configured and has a target.
     fn applies(&self, rule: Rule) -> bool
-        ensures { IsTrue result ↔ ((has_rule self.now.rules rule ≡ true) × HasTarget self.now.bounds rule self.now.cell) }
+        ensures { IsTrue result ↔ ((has_rule self.now.rules rule ≡ true)
+            × HasTarget self.now.bounds rule self.now.cell) }
     {
         self.rules.has(rule) && has_target(self.bounds, rule, self.cell)
     }
 
     // The line at this position, which may be empty.
     fn line(&self) -> Line
-        ensures { IsRightLine self.now.bounds self.now.rules self.now.cell self.now.stage self.now.m self.now.depth result }
+        ensures { IsRightLine self.now.bounds self.now.rules self.now.cell
+            self.now.stage self.now.m self.now.depth result }
     {
         let mut line = Line {
             stage: self.stage,
@@ -112,8 +124,8 @@ impl Lines {
             skip: 0,
         };
         match self.stage {
-            Stage::Fewer => {
-                if self.applies(Rule::Fewer) {
+            Stage::Single(rule) => {
+                if self.applies(rule) {
                     line.last = 1;
                 }
             }
@@ -128,11 +140,21 @@ impl Lines {
         ensures rules { self.new.rules ≡ self.old.rules }
         ensures cell { self.new.cell ≡ self.old.cell }
         ensures place { IfSome result (λ l. IsPosition self.old.bounds l.stage l.m l.depth) }
-        ensures line { IfSome result (λ l. IsRightLine self.old.bounds self.old.rules self.old.cell l.stage l.m l.depth l) }
-        ensures after { IfSome result (λ l. (key self.old.stage self.old.m self.old.depth ≤ key l.stage l.m l.depth) × (key l.stage l.m l.depth < key self.new.stage self.new.m self.new.depth)) }
-        ensures few { IfSome result (λ l. (l.first ≤ l.last) × (left self.new.bounds self.new.stage self.new.m self.new.depth + l.last ≤ left self.old.bounds self.old.stage self.old.m self.old.depth)) }
-        ensures passed { (g : Stage) (m d s : ℕ) → IsPlace self.old.bounds self.old.rules self.old.cell g m d s → key self.old.stage self.old.m self.old.depth ≤ key g m d → MatchOption result ⊥ (λ l. (key g m d ≡ key l.stage l.m l.depth) ⊎ (key self.new.stage self.new.m self.new.depth ≤ key g m d)) }
-        ensures later { key self.old.stage self.old.m self.old.depth ≤ key self.new.stage self.new.m self.new.depth }
+        ensures line { IfSome result (λ l.
+            IsRightLine self.old.bounds self.old.rules self.old.cell l.stage l.m l.depth l) }
+        ensures after { IfSome result (λ l.
+            (key self.old.stage self.old.m self.old.depth ≤ key l.stage l.m l.depth)
+            × (key l.stage l.m l.depth < key self.new.stage self.new.m self.new.depth)) }
+        ensures few { IfSome result (λ l. (l.first ≤ l.last)
+            × (left self.new.bounds self.new.stage self.new.m self.new.depth + l.last
+            ≤ left self.old.bounds self.old.stage self.old.m self.old.depth)) }
+        ensures passed { (g : Stage) (m d s : ℕ)
+            → IsPlace self.old.bounds self.old.rules self.old.cell g m d s
+            → key self.old.stage self.old.m self.old.depth ≤ key g m d
+            → MatchOption result ⊥ (λ l. (key g m d ≡ key l.stage l.m l.depth)
+            ⊎ (key self.new.stage self.new.m self.new.depth ≤ key g m d)) }
+        ensures later { key self.old.stage self.old.m self.old.depth
+            ≤ key self.new.stage self.new.m self.new.depth }
     {
         while self.stage != Stage::End {
             let line = self.line();
@@ -150,9 +172,15 @@ impl Lines {
         ensures bounds { self.new.bounds ≡ self.old.bounds }
         ensures rules { self.new.rules ≡ self.old.rules }
         ensures cell { self.new.cell ≡ self.old.cell }
-        ensures few { left self.new.bounds self.new.stage self.new.m self.new.depth + width self.old.bounds self.old.stage ≤ left self.old.bounds self.old.stage self.old.m self.old.depth }
-        ensures later { key self.old.stage self.old.m self.old.depth < key self.new.stage self.new.m self.new.depth }
-        ensures none { (g : Stage) (m d s : ℕ) → IsPlace self.old.bounds self.old.rules self.old.cell g m d s → key self.old.stage self.old.m self.old.depth < key g m d → key self.new.stage self.new.m self.new.depth ≤ key g m d }
+        ensures few { left self.new.bounds self.new.stage self.new.m self.new.depth
+            + width self.old.bounds self.old.stage
+            ≤ left self.old.bounds self.old.stage self.old.m self.old.depth }
+        ensures later { key self.old.stage self.old.m self.old.depth
+            < key self.new.stage self.new.m self.new.depth }
+        ensures none { (g : Stage) (m d s : ℕ)
+            → IsPlace self.old.bounds self.old.rules self.old.cell g m d s
+            → key self.old.stage self.old.m self.old.depth < key g m d
+            → key self.new.stage self.new.m self.new.depth ≤ key g m d }
     {
         if self.depth < self.m {
             self.depth += 1;
@@ -171,7 +199,7 @@ impl Lines {
         ensures { result ≡ top_of self.now.bounds self.now.stage }
     {
         match self.stage {
-            Stage::Fewer | Stage::End => 1,
+            Stage::Single(_) | Stage::End => 1,
         }
     }
 }

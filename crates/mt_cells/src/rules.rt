@@ -8,12 +8,37 @@ ghost use Rattle.mt_cells.specs.Instances.{has_rule};
 pub enum Rule {
     /// An array without its last coordinate.
     Fewer,
+    /// An array without the last row of each coordinate.
+    Shallower,
+    /// An array with a zero row added to each coordinate.
+    Deeper,
+    /// An array with a zero column added at the right.
+    Longer,
+    /// An array modulo the first row of the first coordinate: its other rows, and the rows of the
+    /// others but their last.
+    QuotientKeep,
+    /// An array modulo the first row of the first coordinate: the rows of the others.
+    QuotientDrop,
+    /// A sequence's matrices without the last.
+    SeqFewer,
+    /// The upper left parts of a sequence's matrices.
+    SeqCut,
+    /// A net of a sequence, with one coordinate more.
+    SeqToNet,
 }
 
 /// The rules that a table uses.
 #[derive(Clone, Copy, PartialEq, Eq, Debug)]
 pub struct RuleSet {
     pub fewer: bool,
+    pub shallower: bool,
+    pub deeper: bool,
+    pub longer: bool,
+    pub quotient_keep: bool,
+    pub quotient_drop: bool,
+    pub seq_fewer: bool,
+    pub seq_cut: bool,
+    pub seq_to_net: bool,
 }
 
 impl RuleSet {
@@ -21,7 +46,17 @@ impl RuleSet {
     pub fn all() -> RuleSet
         ensures { (rule : Rule) → has_rule result rule ≡ true }
     {
-        RuleSet { fewer: true }
+        RuleSet {
+            fewer: true,
+            shallower: true,
+            deeper: true,
+            longer: true,
+            quotient_keep: true,
+            quotient_drop: true,
+            seq_fewer: true,
+            seq_cut: true,
+            seq_to_net: true,
+        }
     }
 
     /// Whether the rule is used.
@@ -30,6 +65,14 @@ impl RuleSet {
     {
         match rule {
             Rule::Fewer => self.fewer,
+            Rule::Shallower => self.shallower,
+            Rule::Deeper => self.deeper,
+            Rule::Longer => self.longer,
+            Rule::QuotientKeep => self.quotient_keep,
+            Rule::QuotientDrop => self.quotient_drop,
+            Rule::SeqFewer => self.seq_fewer,
+            Rule::SeqCut => self.seq_cut,
+            Rule::SeqToNet => self.seq_to_net,
         }
     }
 }

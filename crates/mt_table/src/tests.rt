@@ -34,8 +34,10 @@ fn array(m: u8, s: u8, depth: u8) -> Cell
 fn greatest_values(rt: HostRuntime) -> Result<(), Fail> {
     let bounds = Bounds::new(4, 8).ok_or("none")?;
     let table = table_of::<Brand>(rt.alloc(), bounds, Blank::new(1))?;
-    // identity, parity without its last coordinate, constant
+    // identity and parity; these without a row and without a coordinate; parity with zero rows
     assert_eq!(rt; table.value(array(3, 1, 3)), 3);
+    assert_eq!(rt; table.value(array(3, 4, 1)), 3);
+    assert_eq!(rt; table.value(array(3, 1, 2)), 3);
     assert_eq!(rt; table.value(array(3, 3, 1)), 3);
     assert_eq!(rt; table.value(array(3, 3, 3)), 1);
     let cell = Cell::Seq {

@@ -13,9 +13,9 @@ returns c =
     let ns = numbers_by claim.form (header_of (statement_of claim)) in
     let rows = rows_text a.columns n a.digits in
     let system = c.digits.ensures.system in
-    let size : length c.digits.result.now ≡ n * c.m.result = ap length c.digits.ensures.value ∙ system.size ∙ ap (λ m. n * m) (sym c.m.ensures) in
+    let size : length c.digits.result.now ≡ n * c.m.result = ap length c.digits.ensures.value ∙ system.size ∙ ap (λ m. n * m) (sym c.m.ensures.value) in
     let added : c.push_rows.new.text.items ≡ c.push-2.new.self.items ++ rows =
-    c.in_ok-push_rows.ensures n size ∙ ap₂ (λ m (ds : List ℕ). c.push-2.new.self.items ++ rows_text m n ds) c.m.ensures c.digits.ensures.value in
+    c.in_ok-push_rows.ensures n size ∙ ap₂ (λ m (ds : List ℕ). c.push-2.new.self.items ++ rows_text m n ds) c.m.ensures.value c.digits.ensures.value in
     let parts : c.push_rows.new.text.items ≡ (form_word claim.form ++ (flat_map (λ n. 32 ∷ decimal n) ns ++ 32 ∷ claim.name)) ++ 10 ∷ rows = search (rules, append_assoc) in
     let text : c.push_rows.new.text.items ≡ canonical_text (statement_of claim) =
     parts ∙ ap (λ (line : List ℕ). line ++ 10 ∷ rows) (sym (join_with_byte-header (form_word claim.form) ns claim.name)) in

@@ -1,7 +1,16 @@
+use Rattle.std.proofs.Common.{rules}
+use Rattle.mt_cells.proofs.PlaceLemmas.{holds}
 use Rattle.mt_table.proofs.LineLemmas.{line_step, line_skip}
 use Rattle.mt_table.proofs.WorkLemmas.{grows_trans}
 use Rattle.mt_table.proofs.work.Work.try_line.Goals as goal
 use Rattle.mt_table.proofs.work.Work.try_line.Goals.{then-s-line, else-s-line}
+
+pub offer-requires : goal.offer-requires
+offer-requires g c =
+    let at = c.args.self.now in
+    let line = c.args.line.now in
+    rw (c.instance-instance.ensures, c.loop-s.invariant.0.bounds, c.loop-s.invariant.0.rules)
+    (holds at.bounds at.rules c.args.cell line.stage line.m line.depth c.loop-s.s c.requires.inside ((c.requires.right.places c.loop-s.s).1 (search rules, search rules, c.if-s-line.true)))
 
 pub loop-s-preserved : goal.loop-s-preserved
 loop-s-preserved g c =

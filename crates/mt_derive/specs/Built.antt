@@ -1,0 +1,59 @@
+-- Systems of nodes.
+use Rattle.std.specs.Prelude.{◌≡◌, ◌≢◌, ℕ, ◌<◌, ◌≤◌, List, get_or, slice_index}
+use Rattle.mt_system.specs.Rows.{Matrices, row_of}
+use Rattle.mt_system.specs.Statements.{Statement}
+use Rattle.mt_cells.specs.declared.rules.Rule.{Rule}
+use Rattle.mt_cells.specs.declared.rules.Rule.TheVariants.{Fewer, Shallower, Deeper, Longer, QuotientKeep, QuotientDrop, SeqFewer, SeqCut, SeqToNet}
+use Rattle.mt_cells.specs.Trees.{Tree}
+use Rattle.mt_derive.specs.declared.nodes.Made.TheVariants as made
+use Rattle.mt_derive.specs.declared.nodes.Node.{Node}
+use Rattle.mt_derive.specs.Imports.{IsImport, entry_of}
+use Rattle.mt_derive.specs.Places.{IsAt}
+use Rattle.mt_derive.specs.Systems.{IsSystemOf, Has}
+use Rattle.mt_derive.specs.Nodes.{IsTreeOf}
+
+-- a is the system that the tree of node n makes, and one of the node's cell with its value
+pub record IsBuilt (nodes : List Node) (L : List Statement) (n : ℕ) (a : Matrices) : Type 0 where
+  pub tree : Tree
+  pub unfolds : IsTreeOf nodes n tree
+  pub made : IsSystemOf L tree a
+  pub node : Node
+  pub place : IsAt nodes n node
+  pub has : Has node.cell a node.k
+
+-- the same of a whole system, whose columns the value is not over
+pub record IsKnown (nodes : List Node) (L : List Statement) (n : ℕ) (a : Matrices) : Type 0 where
+  pub built : IsBuilt nodes L n a
+  pub within : built.node.k ≤ a.columns
+
+-- the systems of the first of these numbers
+abbrev pub AreKnown : List Node → List Statement → List ℕ → List Matrices → Type 0
+AreKnown nodes L order systems = (place : ℕ) (a : Matrices) → IsAt systems place a → IsKnown nodes L (get_or order place 0) a
+
+-- if the node is an import's, it shows its cell and value
+abbrev pub ShowsImport : List Node → List Statement → ℕ → Type 0
+ShowsImport nodes L n =
+    (i : ℕ) (node : Node) → IsAt nodes n node → node.made ≡ made.Import i
+    → (c : Statement) × IsImport L i c × (entry_of c ≡ record { cell = node.cell; k = node.k })
+
+-- if the node has a parent, which stands before it, this is one of the first count numbers
+abbrev pub HasParentIn : List Node → List ℕ → ℕ → ℕ → Type 0
+HasParentIn nodes order count n =
+    (r : Rule) (p : ℕ) (node parent : Node) → IsAt nodes n node → node.made ≡ made.One r p → p < n → IsAt nodes p parent
+    → (place : ℕ) × (place < count) × (get_or order place 0 ≡ p)
+
+-- the first row of the first coordinate is not zero
+abbrev pub HasFirstRow : Matrices → Type 0
+HasFirstRow p = (c : ℕ) × (slice_index (row_of p 0 0) c ≢ 0)
+
+-- the rule can be used on p
+abbrev pub IsReady : Rule → Matrices → Type 0
+IsReady Fewer p = 2 ≤ p.coordinates
+IsReady Shallower p = 2 ≤ p.depth
+IsReady Deeper p = p.depth < 255
+IsReady Longer p = p.columns < 255
+IsReady QuotientKeep p = (2 ≤ p.columns) × (2 ≤ p.depth) × HasFirstRow p
+IsReady QuotientDrop p = (2 ≤ p.columns) × (2 ≤ p.coordinates) × HasFirstRow p
+IsReady SeqFewer p = (2 ≤ p.coordinates) × (p.depth ≡ p.columns)
+IsReady SeqCut p = (2 ≤ p.columns) × (p.depth ≡ p.columns)
+IsReady SeqToNet p = (p.coordinates < 255) × (p.depth ≡ p.columns)

@@ -1,0 +1,8 @@
+pub mod Makes
+pub mod RowLemmas
+pub mod SequenceLemmas
+pub mod AxiomLemmas
+pub mod AbstractQuotients
+pub mod QuotientLemmas
+pub mod PaddedLemmas
+pub mod MakeLemmas
