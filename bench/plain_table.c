@@ -1,5 +1,6 @@
 /* The plain program beside mint's table: it computes the same greatest values with a work list and
-   answers one question for a net. Usage: plain_table M S Q NET_M NET_S */
+   answers one question for a net. It writes the number of its conclusions to standard error.
+   Usage: plain_table M S Q NET_M NET_S */
 #include <stdio.h>
 #include <stdlib.h>
 #include <string.h>
@@ -10,6 +11,7 @@ static const int orders[ORDERS] = {2, 3, 4, 5, 7, 8, 9};
 static int m_max, s_max, arrays, per_order;
 static unsigned char *values, *waits;
 static int from;
+static long conclusions;
 
 static int array_number(int order, int m, int s, int depth) {
     return order * per_order + s_max * (m * (m - 1) / 2) + (s - 1) * m + (depth - 1);
@@ -22,6 +24,7 @@ static int greatest_axiom(int m, int s, int depth) {
 }
 
 static void raise_to(int n, int k) {
+    conclusions++;
     if (values[n] >= k) return;
     values[n] = k;
     waits[n] = 1;
@@ -34,8 +37,45 @@ static int sequence_number(int order, int m, int s) {
 
 static int below(int k) { return k > 0 ? k - 1 : 0; }
 
+static int least(int j, int k) { return j < k ? j : k; }
+
+/* Tries the product and (u,u+v) of two arrays, of s and t coordinates, for each t of the second. */
+static void try_seconds(int order, int m, int s, int depth, int n, int deeper) {
+    int k = values[array_number(order, m, s, depth)];
+    int e = depth == deeper ? k : least(k, depth);
+    for (int t = 1; s + t <= s_max; t++) {
+        int l = values[array_number(order, n, t, deeper)];
+        int target = array_number(order, m + n, s + t, deeper);
+        raise_to(target, least(e, l));
+        if (s <= t) raise_to(target, least(2 * e + 1, l));
+    }
+}
+
+/* The same for each s of the first, but for the second array itself. */
+static void try_firsts(int order, int m, int t, int deeper, int n, int depth) {
+    int l = values[array_number(order, m, t, deeper)];
+    for (int s = 1; s + t <= s_max; s++) {
+        if (n == m && s == t && depth == deeper) continue;
+        int k = values[array_number(order, n, s, depth)];
+        int e = depth == deeper ? k : least(k, depth);
+        int target = array_number(order, m + n, s + t, deeper);
+        raise_to(target, least(e, l));
+        if (s <= t) raise_to(target, least(2 * e + 1, l));
+    }
+}
+
+/* Tries every instance with two parents of which this array is one. */
+static void try_pairs(int order, int m, int s, int depth) {
+    for (int n = 1; m + n <= m_max; n++) {
+        for (int deeper = depth; deeper <= n; deeper++) try_seconds(order, m, s, depth, n, deeper);
+        for (int lower = 1; lower <= n && lower <= depth; lower++)
+            try_firsts(order, m, s, depth, n, lower);
+    }
+}
+
 /* Tries every instance that has this array as a parent. */
 static void try_array(int order, int m, int s, int depth) {
+    try_pairs(order, m, s, depth);
     int k = values[array_number(order, m, s, depth)];
     if (s >= 2) raise_to(array_number(order, m, s - 1, depth), k);
     if (depth >= 2) raise_to(array_number(order, m, s, depth - 1), k);
@@ -88,6 +128,7 @@ int main(int count, char **words) {
         waits[from] = 0;
         try_cell(from);
     }
+    fprintf(stderr, "%ld\n", conclusions);
     int q = atoi(words[3]), m = atoi(words[4]), s = atoi(words[5]), order = 0;
     while (order < ORDERS && orders[order] != q) order++;
     if (order == ORDERS || m < 1 || m > m_max || s < 1 || s > s_max) return 8;

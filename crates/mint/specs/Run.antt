@@ -2,9 +2,9 @@
 use Rattle.std.specs.Prelude.{◌≡◌, ◌≢◌, ℕ, true, List, [], cond, Option}
 use Rattle.mt_cells.specs.declared.bounds.Bounds.{Bounds}
 use Rattle.mt_cells.specs.declared.rules.Rule.{Rule}
-use Rattle.mt_cells.specs.declared.rules.RuleSet.{RuleSet}
 use Rattle.mt_cells.specs.declared.asks.Question.{Question}
 use Rattle.mt_cells.specs.Instances.{has_rule}
+use Rattle.mt_table.specs.Tables.{Contents}
 use Rattle.mt_answer.specs.declared.texts.Text.{Text}
 use Rattle.mt_answer.specs.Answers.{IsAnswer}
 use Rattle.mint.specs.declared.status.Status.{Status}
@@ -41,12 +41,14 @@ pub record IsChecked (b : Bounds) (before after : Option (List ℕ)) (status : S
   pub input : IsInput 65537 before after text
   pub check : IsCheck b text status output
 
--- the status and the output for a question to the table of all rules, which has no imports
+-- the status and the output for a question to a table of all rules, which has no imports
 pub record IsAnswered (b : Bounds) (question : Question) (status : Status) (output : List ℕ) : Type 0 where
-  pub rules : RuleSet
-  pub all : (rule : Rule) → has_rule rules rule ≡ true
+  pub table : Contents
+  pub bounds : table.bounds ≡ b
+  pub all : (rule : Rule) → has_rule table.rules rule ≡ true
+  pub list : table.list ≡ []
   pub text : Text
-  pub answer : IsAnswer b rules [] question text
+  pub answer : IsAnswer table question text
   pub status_is : status ≡ cond text.outside Outside Ok
   pub output_is : output ≡ text.bytes.items
 

@@ -4,7 +4,9 @@ use Rattle.mt_cells.specs.declared.bounds.Bounds.{Bounds}
 use Rattle.mt_cells.specs.declared.asks.Kind.{Kind}
 use Rattle.mt_cells.specs.declared.asks.Kind.TheVariants.{Net, Oa, Ooa, Seq}
 use Rattle.mt_cells.specs.declared.asks.Ask.{Ask}
-use Rattle.mt_cells.specs.declared.asks.Question.TheVariants.{Value}
+use Rattle.mt_cells.specs.declared.asks.Question.{Question}
+use Rattle.mt_cells.specs.declared.asks.Question.TheVariants.{Value, Tree, Matrix}
+use Rattle.mt_answer.specs.Answers.{ask_of}
 use Rattle.mint.specs.declared.words.Task.{Task}
 use Rattle.mint.specs.declared.words.Task.TheVariants as task
 use Rattle.mint.specs.declared.words.Command.{Command}
@@ -46,10 +48,16 @@ pub record IsAskFor (words : List (List ℕ)) (a : Ask) : Type 0 where
   pub words_are : words ≡ kind_word a.kind ∷ sizes
   pub is_sizes : IsSizes a.kind sizes a
 
+abbrev pub question_word : Question → List ℕ
+question_word (Value a) = codes "value"
+question_word (Tree a) = codes "tree"
+question_word (Matrix a) = codes "matrix"
+
 -- the words behind the bounds
 abbrev pub IsTask : List (List ℕ) → Task → Type 0
 IsTask words task.Check = words ≡ codes "check" ∷ []
-IsTask words (task.Ask (Value a)) = (rest : List (List ℕ)) × (words ≡ codes "value" ∷ rest) × IsAskFor rest a
+IsTask words (task.Ask question) =
+    (rest : List (List ℕ)) × (words ≡ question_word question ∷ rest) × IsAskFor rest (ask_of question)
 
 -- the words of a command: its bounds, and then its task
 pub record IsCommand (words : List (List ℕ)) (c : Command) : Type 0 where

@@ -27,8 +27,9 @@ const MOST: usize = 65537;
 ///
 /// `M,S check` reads one import text from the input, to its end or its 65,537th byte, and writes
 /// whether its claim holds. `M,S value` and a question write the greatest value that a derivation
-/// has for a cell. All other words give the usage. Only `check` touches the input. What is written
-/// is written once the answer is known.
+/// has for a cell, `M,S tree` and the same question a derivation with this value, and `M,S matrix`
+/// the generator matrices that it makes, as an import text. All other words give the usage. Only
+/// `check` touches the input. What is written is written once the answer is known.
 pub fn run_command<R: Source, W: Sink>(
     alloc: Global,
     words: &[String],
@@ -129,7 +130,11 @@ fn answer_status(outside: bool) -> Status
 }
 
 // The table of all rules, whose steps nobody counts.
-fn table_of<L: Ledger>(alloc: Global, bounds: Bounds, blank: Blank) -> Result<Table, AllocError>
+pub(crate) fn table_of<L: Ledger>(
+    alloc: Global,
+    bounds: Bounds,
+    blank: Blank,
+) -> Result<Table, AllocError>
     requires name { blank.name ≡ L.name }
     requires parts { blank.parts ≡ L.parts }
     requires some { 0 < L.parts }

@@ -4,6 +4,10 @@
 mod checks;
 mod command;
 mod input;
+#[cfg(test)]
+mod sequence_tests;
+#[cfg(test)]
+mod served_tests;
 mod status;
 #[cfg(test)]
 mod tests;

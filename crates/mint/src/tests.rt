@@ -12,7 +12,7 @@ const TWIN: &[u8] = b"ooa 2 2 2 2 2 twin\n10\n01\n10\n01\n";
 
 const SAME: &[u8] = b"ooa 3 2 2 1 2 same\n12\n12\n";
 
-const USAGE: &[u8] = b"usage: mint STORE FEED M,S COMMAND\n";
+pub(crate) const USAGE: &[u8] = b"usage: mint STORE FEED M,S COMMAND\n";
 
 fn words(alloc: Global, texts: &[&str]) -> Result<Vec<String>, AllocError> {
     let mut words = Vec::new(alloc);
@@ -23,7 +23,7 @@ fn words(alloc: Global, texts: &[&str]) -> Result<Vec<String>, AllocError> {
 }
 
 // The status and the output of a run, the input being given in pieces.
-fn run(
+pub(crate) fn run(
     alloc: Global,
     texts: &[&str],
     text: &[u8],
@@ -101,7 +101,7 @@ fn bounds_hold_for_checks(rt: HostRuntime) -> Result<(), Fail> {
 }
 
 // Runs each question, and compares its text.
-fn assert_answers(
+pub(crate) fn assert_answers(
     rt: &impl Abort,
     alloc: Global,
     status: Status,
@@ -117,10 +117,14 @@ fn assert_answers(
 
 #[test]
 fn questions_get_their_values(rt: HostRuntime) -> Result<(), Fail> {
-    let cases: [(&[&str], &[u8]); 6] = [
+    let cases: [(&[&str], &[u8]); 7] = [
         (
             &["4,8", "value", "oa", "2", "3", "4"],
             b"oa 2 3 4: k 3, t 0, since 0, version 0\n",
+        ),
+        (
+            &["4,8", "value", "oa", "2", "4", "8"],
+            b"oa 2 4 8: k 3, t 1, since 0, version 0\n",
         ),
         (
             &["4,8", "value", "net", "2", "3", "1"],
@@ -140,7 +144,7 @@ fn questions_get_their_values(rt: HostRuntime) -> Result<(), Fail> {
         ),
         (
             &["16,32", "value", "ooa", "9", "16", "32", "7"],
-            b"ooa 9 16 32 7: k 1, t 15, since 0, version 0\n",
+            b"ooa 9 16 32 7: k 3, t 13, since 0, version 0\n",
         ),
     ];
     assert_answers(&rt, rt.alloc(), Status::Ok, &cases)
@@ -148,7 +152,7 @@ fn questions_get_their_values(rt: HostRuntime) -> Result<(), Fail> {
 
 #[test]
 fn questions_outside_name_their_part(rt: HostRuntime) -> Result<(), Fail> {
-    let cases: [(&[&str], &[u8]); 7] = [
+    let cases: [(&[&str], &[u8]); 9] = [
         (&["4,8", "value", "net", "2", "5", "3"], b"outside: m 5\n"),
         (&["4,8", "value", "net", "6", "2", "2"], b"outside: q 6\n"),
         (&["4,8", "value", "oa", "2", "0", "9"], b"outside: m 0\n"),
@@ -164,6 +168,11 @@ fn questions_outside_name_their_part(rt: HostRuntime) -> Result<(), Fail> {
         (
             &["4,8", "value", "net", "18446744073709551615", "3", "1"],
             b"outside: q 18446744073709551615\n",
+        ),
+        (&["4,8", "tree", "net", "2", "5", "3"], b"outside: m 5\n"),
+        (
+            &["4,8", "matrix", "ooa", "2", "3", "2", "4"],
+            b"outside: depth 4\n",
         ),
     ];
     assert_answers(&rt, rt.alloc(), Status::Outside, &cases)

@@ -5,7 +5,7 @@ ghost use Rattle.mt_cells.specs.declared.asks.Kind.{Kind};
 ghost use Rattle.mt_cells.specs.declared.asks.Ask.{Ask};
 ghost use Rattle.mint.specs.declared.words.Task.{Task};
 ghost use Rattle.mint.specs.declared.words.Command.{Command};
-ghost use Rattle.mint.specs.Words.{kind_word, bounds_word, IsPlain, IsSizes, IsTask, IsCommand};
+ghost use Rattle.mint.specs.Words.{kind_word, bounds_word, IsPlain, IsSizes, IsAskFor, IsTask, IsCommand};
 
 use mt_cells::{Ask, Bounds, Kind, Question};
 
@@ -28,7 +28,8 @@ pub enum Task {
 /// The command of these words, or `None` where they have no form:
 ///
 /// - `M,S check`;
-/// - `M,S value KIND Q M S` for KIND `net`, `oa` or `seq`, and `M,S value ooa Q M S DEPTH`.
+/// - `M,S value KIND Q M S` for KIND `net`, `oa` or `seq`, and `M,S value ooa Q M S DEPTH`;
+/// - the same with `tree` or `matrix` in place of `value`.
 ///
 /// `M,S` are bounds. A number is decimal, without sign and without a zero in front but for `0`
 /// itself, and is below 2^64.
@@ -75,13 +76,20 @@ fn read_task(words: &[String]) -> Option<Task>
                 None
             }
         }
-        "value" => {
-            let (word, words) = first_word(words)?;
-            let ask = read_ask(read_kind(word)?, words)?;
-            Some(Task::Ask(Question::Value(ask)))
-        }
+        "value" => Some(Task::Ask(Question::Value(read_asked(words)?))),
+        "tree" => Some(Task::Ask(Question::Tree(read_asked(words)?))),
+        "matrix" => Some(Task::Ask(Question::Matrix(read_asked(words)?))),
         _ => None,
     }
+}
+
+// The kind and the sizes of a question.
+fn read_asked(words: &[String]) -> Option<Ask>
+    ensures { MatchOption result ((a : Ask) → ¬ IsAskFor (map string_bytes words.now) a)
+        (IsAskFor (map string_bytes words.now)) }
+{
+    let (word, words) = first_word(words)?;
+    read_ask(read_kind(word)?, words)
 }
 
 fn read_kind(word: &str) -> Option<Kind>

@@ -3,7 +3,9 @@
 
 mod answering;
 mod lines;
+mod matrices;
 mod texts;
+mod trees;
 
 pub use answering::text;
 pub use texts::Text;

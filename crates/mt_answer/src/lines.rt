@@ -6,7 +6,7 @@ use mt_cells::{Ask, Kind, Outside, Part};
 use std::alloc::{AllocError, Global};
 
 /// The line for a value.
-pub fn value_line(
+pub(crate) fn value_line(
     alloc: Global,
     ask: &Ask,
     k: u8,
@@ -25,7 +25,7 @@ pub fn value_line(
 }
 
 // The line for a question outside the bounds.
-pub fn outside_line(alloc: Global, outside: Outside) -> Result<Vec<u8>, AllocError>
+pub(crate) fn outside_line(alloc: Global, outside: Outside) -> Result<Vec<u8>, AllocError>
     ensures { IfOk result (λ text. text.items ≡ outside_text outside.name outside.number) }
 {
     let mut text = Vec::from_slice(alloc, b"outside: ")?;
@@ -67,7 +67,7 @@ fn kind_word(kind: Kind) -> &'static [u8]
 }
 
 // Adds a label, and a number in decimal.
-fn push_labelled(
+pub(crate) fn push_labelled(
     alloc: Global,
     text: &mut Vec<u8>,
     label: &[u8],

@@ -9,11 +9,11 @@ use Rattle.mt_linear.specs.Field.{number_of}
 use Rattle.mt_cells.specs.declared.bounds.Bounds.{Bounds}
 use Rattle.mt_cells.specs.declared.cells.Cell.{Cell}
 use Rattle.mt_cells.specs.declared.cells.Cell.TheVariants.{Ooa, Seq}
-use Rattle.mt_cells.specs.Cells.{InBounds, Before, place_of, triangle, arrays_of, per_order_of, cells_of, number}
+use Rattle.mt_cells.specs.Cells.{InBounds, order_of, Before, place_of, triangle, arrays_of, per_order_of, cells_of, number}
 use Rattle.mt_cells.proofs.Triangles.{triangle-suc, triangle_le, triangle_17}
 
 -- a greater first digit outweighs the rest
-radix_lt : (n a x b : ℕ) → x < n → a < b → a * n + x < b * n
+pub radix_lt : (n a x b : ℕ) → x < n → a < b → a * n + x < b * n
 radix_lt n a x b h k =
     let p : (a + 1) * n ≤ b * n = mul-le-mul_right n (omega arith) in
     let q : (a + 1) * n ≡ a * n + n = omega arith in
@@ -70,16 +70,12 @@ order_back Q7 = refl
 order_back Q8 = refl
 order_back Q9 = refl
 
-order_same : (o p : Order) → number_of o ≡ number_of p → o ≡ p
+pub order_same : (o p : Order) → number_of o ≡ number_of p → o ≡ p
 order_same o p e =
     let same : place_of o ≡ place_of p = omega (arith, number_of-place o, number_of-place p) in
     sym (order_back o) ∙ ap order_from same ∙ order_back p
 
 -- ---- the place of a cell among those of its order
-
-abbrev order_of : Cell → Order
-order_of (Ooa o m s d) = o
-order_of (Seq o m s) = o
 
 abbrev inner : Bounds → Cell → ℕ
 inner b (Ooa o m s d) = b.s_max * triangle m + ((s - 1) * m + (d - 1))

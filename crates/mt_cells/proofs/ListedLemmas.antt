@@ -1,25 +1,28 @@
 -- The instances from a place on, as a list.
-use Rattle.std.proofs.Common.{leb, ℕ, suc, ◌≡◌, ◌+◌, ◌-◌, ◌/◌, ◌%◌, ◌≤◌, ◌<◌, ◌≢◌, ap, refl, arith, sym, ◌∙◌, ⊎_elim, ◌⊎◌, inl, inr, subst, Bool, true, false, [], ◌∷◌, length}
+use Rattle.std.proofs.Common.{eqb, ◌&&◌, leb, ℕ, suc, ◌≡◌, ◌+◌, ◌-◌, ◌/◌, ◌%◌, ◌≤◌, ◌<◌, ◌≢◌, ap, refl, arith, sym, ◌∙◌, ⊎_elim, ◌⊎◌, inl, inr, subst, Bool, true, false, [], ◌∷◌, length}
 use Rattle.std.specs.Bool.{Decides}
 use Rattle.std.proofs.lemmas.Bool.{cases_lt, cases_Bool, leb-true, le-leb}
-use Rattle.std.proofs.lemmas.Bool.Decides.{Decides-and, Decides-eqb, Decides-ltb, Decides-like}
+use Rattle.std.proofs.lemmas.Bool.Decides.{Decides-and, Decides-not, Decides-eqb, Decides-ltb, Decides-like}
 use Rattle.mt_cells.specs.declared.bounds.Bounds.{Bounds}
 use Rattle.mt_cells.specs.declared.cells.Cell.{Cell}
 use Rattle.mt_cells.specs.declared.cells.Cell.TheVariants.{Ooa, Seq}
 use Rattle.mt_cells.specs.declared.rules.Rule.{Rule}
-use Rattle.mt_cells.specs.declared.rules.Rule.TheVariants.{Fewer, Shallower, Deeper, Longer, QuotientKeep, QuotientDrop, SeqFewer, SeqCut, SeqToNet}
+use Rattle.mt_cells.specs.declared.rules.Rule.TheVariants.{Fewer, Shallower, Deeper, Longer, QuotientKeep, QuotientDrop, SeqFewer, SeqCut, SeqToNet, Product, Uuv}
 use Rattle.mt_cells.specs.declared.rules.RuleSet.{RuleSet}
 use Rattle.mt_cells.specs.declared.instances.Instance.{Instance}
 use Rattle.mt_cells.specs.declared.lines.Stage.{Stage}
 use Rattle.mt_cells.specs.declared.lines.Stage.TheVariants as stage
 use Rattle.mt_cells.specs.declared.lines.Line.{Line}
 use Rattle.mt_cells.specs.declared.lines.Lines.{Lines}
-use Rattle.mt_cells.specs.Cells.{InBounds}
-use Rattle.mt_cells.specs.Rules.{HasTarget}
+use Rattle.mt_linear.specs.declared.Order.{Order}
+use Rattle.mt_linear.specs.Field.{number_of}
+use Rattle.mt_cells.specs.Cells.{InBounds, order_of}
+use Rattle.mt_cells.specs.Rules.{HasTarget, HasPairTarget}
 use Rattle.mt_cells.specs.Instances.{has_rule, IsInstance, HasParent, fan_of, IsListing}
-use Rattle.mt_cells.specs.Places.{rank, stage_of, key, place_number, end_number, IsPosition, IsSinglePlace, IsPlace, instance_at, width, left_in, left, IsRightLine}
-use Rattle.mt_cells.specs.Listed.{picked, has_target, is_single_place, is_place, is_numbered, instance_numbered, instances_from, instances_left, IsCursor}
-use Rattle.mt_cells.proofs.PlaceLemmas.{rule_rank_low, position_small, stage_back, stage_forth, key_apart, Stands, stands, holds, parent, placed, same_place, left_falls, left_high, width_fits}
+use Rattle.mt_cells.specs.Places.{rank, stage_of, key, place_number, end_number, IsPosition, IsSinglePlace, IsPair, other, IsPlace, instance_at, width, left_in, left, IsRightLine}
+use Rattle.mt_cells.specs.Listed.{picked, has_target, is_single_place, fits, has_pair_target, is_other, is_array, is_pair, is_place, is_numbered, instance_numbered, instances_from, instances_left, IsCursor}
+use Rattle.mt_cells.proofs.CellLemmas.{order_same}
+use Rattle.mt_cells.proofs.PlaceLemmas.{others_same, rule_rank_low, rank_high, position_small, stage_back, stage_forth, key_apart, Stands, stands, holds, parent, placed, same_place, left_falls, left_high, width_fits}
 use Rattle.mt_cells.proofs.PickedLemmas.{picked_here, picked_skip, picked_none, picked_all, picked_each, picked_once, picked_few}
 
 -- ---- the tests
@@ -45,6 +48,22 @@ has_target_decides b SeqCut (Seq o m s) = le_decides 2 m
 has_target_decides b SeqToNet (Seq o m s) = Decides-ltb s b.s_max
 has_target_decides b r c = never_decides
 
+order_decides : (o p : Order) → Decides (eqb (number_of o) (number_of p)) (o ≡ p)
+order_decides o p = Decides-like _ (order_same o p) (ap number_of) (Decides-eqb (number_of o) (number_of p))
+
+-- the test of a rule's parents decides whether it has a target for them
+fits_decides : (b : Bounds) (p q : Cell) → Decides (fits b p q) (HasPairTarget b Product p q)
+fits_decides b (Ooa o m s depth) (Ooa p n t deeper) =
+    Decides-like _ (λ h. (h.0, h.1.0, h.1.1.0, h.1.1.1)) (λ h. (h.0, (h.1, (h.2, h.3))))
+    (Decides-and _ _ (order_decides o p) (Decides-and _ _ (le_decides depth deeper) (Decides-and _ _ (le_decides (m + n) b.m_max) (le_decides (s + t) b.s_max))))
+fits_decides b p q = never_decides
+
+pair_target_decides : (b : Bounds) (rule : Rule) (p q : Cell) → Decides (has_pair_target b rule p q) (HasPairTarget b rule p q)
+pair_target_decides b Product p q = fits_decides b p q
+pair_target_decides b Uuv (Ooa o m s depth) (Ooa p n t deeper) =
+    Decides-like _ (λ h. (h.0.0, h.0.1, h.0.2, h.0.3, h.1)) (λ h. ((h.0, h.1, h.2, h.3), h.4)) (Decides-and _ _ (fits_decides b (Ooa o m s depth) (Ooa p n t deeper)) (le_decides s t))
+pair_target_decides b r p q = never_decides
+
 same_decides : (x : Bool) → Decides x (x ≡ true)
 same_decides x = (λ h. h, λ h. h)
 
@@ -53,9 +72,31 @@ single_decides b rules rule c m d s =
     Decides-like _ (λ h. (h.0, h.1.0, h.1.1.0, h.1.1.1.0, h.1.1.1.1)) (λ h. (h.0, (h.1, (h.2, (h.3, h.4)))))
     (Decides-and _ _ (same_decides (has_rule rules rule)) (Decides-and _ _ (has_target_decides b rule c) (Decides-and _ _ (Decides-eqb m 1) (Decides-and _ _ (Decides-eqb d 1) (Decides-eqb s 1)))))
 
+array_decides : (b : Bounds) (o : Order) (m d s : ℕ) → Decides (is_array b m d s) (InBounds b (Ooa o m s d))
+array_decides b o m d s =
+    Decides-like _ (λ h. (h.0, h.1.0, h.1.1.0, h.1.1.1.0, h.1.1.1.1.0, h.1.1.1.1.1)) (λ h. (h.0, (h.1, (h.2, (h.3, (h.4, h.5))))))
+    (Decides-and _ _ (le_decides 1 m) (Decides-and _ _ (le_decides m b.m_max) (Decides-and _ _ (le_decides 1 s) (Decides-and _ _ (le_decides s b.s_max) (Decides-and _ _ (le_decides 1 d) (le_decides d m))))))
+
+pair_decides : (b : Bounds) (rules : RuleSet) (rule : Rule) (p q : Cell) → Decides (is_pair b rules rule p q) (IsPair b rules rule p q)
+pair_decides b rules rule p q = Decides-and _ _ (same_decides (has_rule rules rule)) (pair_target_decides b rule p q)
+
+other_decides : (c : Cell) (m d s : ℕ) → Decides (is_other c m d s) (other c m d s ≢ c)
+other_decides (Ooa o n t e) m d s =
+    Decides-like _ (λ h x. let same = others_same (Ooa o n t e) m d s n e t x in h (same.0, (same.1, same.2))) (λ h x. h (cc (x.0, x.1.0, x.1.1))) (Decides-not _ (Decides-and _ _ (Decides-eqb m n) (Decides-and _ _ (Decides-eqb d e) (Decides-eqb s t))))
+other_decides (Seq o n t) m d s = (λ h x. cc, λ h. refl)
+
+second_decides : (b : Bounds) (rules : RuleSet) (rule : Rule) (c : Cell) (m d s : ℕ)
+    → Decides (is_array b m d s && (is_pair b rules rule (other c m d s) c && is_other c m d s)) (InBounds b (other c m d s) × IsPair b rules rule (other c m d s) c × (other c m d s ≢ c))
+second_decides b rules rule c m d s =
+    Decides-like _ (λ h. (h.0, h.1.0, h.1.1)) (λ h. (h.0, (h.1, h.2))) (Decides-and _ _ (array_decides b (order_of c) m d s) (Decides-and _ _ (pair_decides b rules rule (other c m d s) c) (other_decides c m d s)))
+
 -- the test of a place decides whether it holds an instance
 place_decides : (b : Bounds) (rules : RuleSet) (c : Cell) (g : Stage) (m d s : ℕ) → Decides (is_place b rules c g m d s) (IsPlace b rules c g m d s)
 place_decides b rules c (stage.Single r) m d s = single_decides b rules r c m d s
+place_decides b rules c stage.ProductFirst m d s = Decides-and _ _ (array_decides b (order_of c) m d s) (pair_decides b rules Product c (other c m d s))
+place_decides b rules c stage.ProductSecond m d s = second_decides b rules Product c m d s
+place_decides b rules c stage.UuvFirst m d s = Decides-and _ _ (array_decides b (order_of c) m d s) (pair_decides b rules Uuv c (other c m d s))
+place_decides b rules c stage.UuvSecond m d s = second_decides b rules Uuv c m d s
 place_decides b rules c stage.End m d s = never_decides
 
 -- ---- places and their numbers
@@ -106,6 +147,7 @@ parts_of n g m d s a b e h =
 width_small : (b : Bounds) (g : Stage) → width b g < 63
 width_small b (stage.Single r) = omega arith
 width_small b stage.End = omega arith
+width_small b g = let high = b.s_high in omega arith
 
 -- the number of a place passes the test, and gives its instance
 pub numbered_back : (b : Bounds) (rules : RuleSet) (c : Cell) (g : Stage) (m d s n : ℕ) → InBounds b c → IsPlace b rules c g m d s → n ≡ place_number g m d s → (is_numbered b rules c n ≡ true) × (instance_numbered c n ≡ instance_at c g m d s)
@@ -115,15 +157,11 @@ numbered_back b rules c g m d s n h p e =
     let q = parts_of n g m d s st.m_small st.depth_small (let k : s ≤ width b g = st.high in omega arith) e in
     (rw (q.stage_is, q.m_is, q.d_is, q.s_is) ((place_decides b rules c g m d s).1 p), rw (q.stage_is, q.m_is, q.d_is, q.s_is) refl)
 
--- no rank is above that of the end
-rank_high : (g : Stage) → rank g ≤ rank stage.End
-rank_high (stage.Single r) = omega (arith, rule_rank_low r)
-rank_high stage.End = omega arith
-
 -- the stage of a place comes before the end
 rank_low : (b : Bounds) (rules : RuleSet) (c : Cell) (g : Stage) (m d s : ℕ) → IsPlace b rules c g m d s → rank g < rank stage.End
-rank_low b rules c (stage.Single r) m d s p = rule_rank_low r
+rank_low b rules c (stage.Single r) m d s p = omega (arith, rule_rank_low r)
 rank_low b rules c stage.End m d s p = absurd p
+rank_low b rules c g m d s p = omega arith
 
 -- a place has a number below the end
 pub number_low : (b : Bounds) (rules : RuleSet) (c : Cell) (g : Stage) (m d s : ℕ) → InBounds b c → IsPlace b rules c g m d s → place_number g m d s < end_number

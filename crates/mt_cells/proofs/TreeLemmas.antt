@@ -1,19 +1,17 @@
 -- Closed values bound every tree, those that trees reach are the greatest, and a tree over a list is one over each longer list.
-use Rattle.std.proofs.Common.{◌≡◌, ℕ, ◌-◌, ◌<◌, ◌≤◌, List, ◌++◌, true, Option, None, Some, refl, sym, ap, ap₂, ◌∙◌, arith, le_trans, length-append, ⊎_elim, subst}
-use Rattle.std.proofs.lemmas.Bool.{cases_lt}
+use Rattle.std.proofs.Common.{◌≡◌, ◌==◌, ℕ, ◌-◌, ◌<◌, ◌≤◌, List, ◌++◌, inl, inr, true, Option, None, Some, refl, sym, ap, ap₂, ◌∙◌, arith, le_trans, length-append, ⊎_elim, subst}
+use Rattle.std.proofs.lemmas.Bool.{cases_lt, cases_Bool}
 use Rattle.std.proofs.lemmas.List.{get_or_append_left}
 use Rattle.mt_cells.specs.declared.bounds.Bounds.{Bounds}
 use Rattle.mt_cells.specs.declared.cells.Cell.{Cell}
 use Rattle.mt_cells.specs.declared.rules.Rule.{Rule}
-use Rattle.mt_cells.specs.declared.cells.Cell.TheVariants.{Ooa}
-use Rattle.mt_cells.specs.declared.rules.Rule.TheVariants.{Deeper, QuotientKeep, QuotientDrop, SeqCut}
+use Rattle.mt_cells.specs.declared.cells.Cell.TheVariants.{Ooa, Seq}
+use Rattle.mt_cells.specs.declared.rules.Rule.TheVariants.{Fewer, Shallower, Deeper, Longer, QuotientKeep, QuotientDrop, SeqFewer, SeqCut, SeqToNet, Product, Uuv}
 use Rattle.mt_cells.specs.declared.rules.RuleSet.{RuleSet}
-use Rattle.mt_cells.specs.declared.instances.Instance.{Instance}
-use Rattle.mt_cells.specs.Cells.{InBounds}
-use Rattle.mt_cells.specs.Rules.{HasTarget, target, conclusion, least_parent, HasPairTarget, pair_target, pair_conclusion}
-use Rattle.mt_cells.specs.Instances.{has_rule, Leads, IsInstance, conclusion_by, conclusion_of}
-use Rattle.mt_cells.specs.Places.{second_or}
-use Rattle.mt_cells.specs.Closed.{second_of, IsClosed}
+use Rattle.mt_cells.specs.Cells.{InBounds, columns_of}
+use Rattle.mt_cells.specs.Rules.{HasTarget, target, conclusion, deepened_strength, least_parent, HasPairTarget, pair_target, pair_conclusion}
+use Rattle.mt_cells.specs.Instances.{has_rule, Leads, conclusion_by}
+use Rattle.mt_cells.specs.Closed.{IsClosed}
 use Rattle.mt_cells.specs.Trees.{Entry, no_entry, Tree, axiom_at, imported, one, two, cell_of, value_of, IsTree, Concludes, IsValue}
 
 -- ---- by rule
@@ -26,8 +24,13 @@ conclusion_mono QuotientDrop p j k h = omega arith
 conclusion_mono SeqCut p j k h = omega arith
 conclusion_mono r p j k h = h
 
+deepened_mono : (depth deeper j k : ℕ) → j ≤ k → deepened_strength depth deeper j ≤ deepened_strength depth deeper k
+deepened_mono depth deeper j k h = elim (cases_Bool (depth == deeper)) [ inl e ↦ rw e h | inr e ↦ rw e (omega arith) ]
+
 -- greater values of the parents conclude no less
 pub pair_mono : (r : Rule) (p q : Cell) (j k g l : ℕ) → j ≤ k → g ≤ l → pair_conclusion r p q j g ≤ pair_conclusion r p q k l
+pair_mono Product (Ooa o m s depth) (Ooa p n t deeper) j k g l h i = let more = deepened_mono depth deeper j k h in omega arith
+pair_mono Uuv (Ooa o m s depth) (Ooa p n t deeper) j k g l h i = let more = deepened_mono depth deeper j k h in omega arith
 pair_mono r p q j k g l h i = omega arith
 
 -- a derivation goes on from a parent whose conclusion is more than nothing
@@ -45,9 +48,30 @@ conclusion_low QuotientDrop p k = omega arith
 conclusion_low SeqCut p k = omega arith
 conclusion_low r p k = omega arith
 
+-- a conclusion is at most the columns of the target where the value is at most those of the parent
+pub conclusion_within : (b : Bounds) (r : Rule) (p : Cell) (k : ℕ) → HasTarget b r p → k ≤ columns_of p → conclusion r p k ≤ columns_of (target r p)
+conclusion_within b Fewer (Ooa o m s depth) k h i = i
+conclusion_within b Shallower (Ooa o m s depth) k h i = i
+conclusion_within b Deeper (Ooa o m s depth) k h i = omega (arith, i)
+conclusion_within b Longer (Ooa o m s depth) k h i = omega (arith, i)
+conclusion_within b QuotientKeep (Ooa o m s depth) k h i = omega (arith, i)
+conclusion_within b QuotientDrop (Ooa o m s depth) k h i = omega (arith, i)
+conclusion_within b SeqFewer (Seq o m s) k h i = i
+conclusion_within b SeqCut (Seq o m s) k h i = omega (arith, i)
+conclusion_within b SeqToNet (Seq o m s) k h i = i
+conclusion_within b r p k h i = absurd h
+
 -- a conclusion from two parents is at most 16 where their values are
 pub pair_high : (r : Rule) (p q : Cell) (j k : ℕ) → j ≤ 16 → k ≤ 16 → pair_conclusion r p q j k ≤ 16
+pair_high Product (Ooa o m s depth) (Ooa p n t deeper) j k h i = omega arith
+pair_high Uuv (Ooa o m s depth) (Ooa p n t deeper) j k h i = omega arith
 pair_high r p q j k h i = omega arith
+
+-- it is at most the columns of the target where the value of the second is at most those of the second
+pub pair_within : (b : Bounds) (r : Rule) (p q : Cell) (j k : ℕ) → HasPairTarget b r p q → k ≤ columns_of q → pair_conclusion r p q j k ≤ columns_of (pair_target r p q)
+pair_within b Product (Ooa o m s depth) (Ooa p n t deeper) j k h i = omega (arith, i)
+pair_within b Uuv (Ooa o m s depth) (Ooa p n t deeper) j k h i = omega (arith, i)
+pair_within b r p q j k h i = absurd h
 
 -- equal parents have the same target
 pair_moved : (b : Bounds) (r : Rule) {p p' q q' : Cell} → p ≡ p' → q ≡ q' → HasPairTarget b r p' q' → HasPairTarget b r p q
@@ -60,13 +84,12 @@ pub high_by : (r : Rule) (p : Cell) (q : Option Cell) (j k : ℕ) → j ≤ 16 �
 high_by r p None j k h i = le_trans (conclusion_low r p j) h
 high_by r p (Some q) j k h i = pair_high r p q j k h i
 
-concluded_by : (b : Bounds) (rules : RuleSet) (L : List Entry) (r : Rule) (g p : Cell) (q : Option Cell) → has_rule rules r ≡ true → InBounds b p → Leads b r g p q → (t u : Tree) (j k : ℕ) → Concludes b rules L t p j → Concludes b rules L u (second_or p q) k → 0 < conclusion_by r p q j k → (x : Tree) × Concludes b rules L x g (conclusion_by r p q j k)
-concluded_by b rules L r g p None c h d t u j k x y l = (one r t, ((x.0, c, rw x.1 h, rw x.1 d.0, rw x.2 (conclusion_least r p j l)), ap (target r) x.1 ∙ sym d.1, ap₂ (conclusion r) x.1 x.2))
-concluded_by b rules L r g p (Some q) c h d t u j k x y l = (two r t u, ((x.0, y.0, c, rw x.1 h, rw y.1 d.0, pair_moved b r x.1 y.1 d.1), ap₂ (pair_target r) x.1 y.1 ∙ sym d.2, cc (x.1, x.2, y.1, y.2)))
+-- the trees of instances over trees of their parents
+pub one_concluded : (b : Bounds) (rules : RuleSet) (L : List Entry) (r : Rule) (g p : Cell) → has_rule rules r ≡ true → InBounds b p → Leads b r g p None → (t : Tree) (j : ℕ) → Concludes b rules L t p j → 0 < conclusion r p j → Concludes b rules L (one r t) g (conclusion r p j)
+one_concluded b rules L r g p c h d t j x l = ((x.0, c, rw x.1 h, rw x.1 d.0, rw x.2 (conclusion_least r p j l)), ap (target r) x.1 ∙ sym d.1, ap₂ (conclusion r) x.1 x.2)
 
--- the tree of an instance over trees of its parents
-pub concluded : (b : Bounds) (rules : RuleSet) (L : List Entry) (i : Instance) → IsInstance b rules i → (t u : Tree) (j k : ℕ) → Concludes b rules L t i.first j → Concludes b rules L u (second_of i) k → 0 < conclusion_of i j k → (x : Tree) × Concludes b rules L x i.target (conclusion_of i j k)
-concluded b rules L i h t u j k x y l = concluded_by b rules L i.rule i.target i.first i.second h.configured h.first h.leads t u j k x y l
+pub two_concluded : (b : Bounds) (rules : RuleSet) (L : List Entry) (r : Rule) (g p q : Cell) → has_rule rules r ≡ true → InBounds b p → Leads b r g p (Some q) → (t u : Tree) (j k : ℕ) → Concludes b rules L t p j → Concludes b rules L u q k → Concludes b rules L (two r t u) g (pair_conclusion r p q j k)
+two_concluded b rules L r g p q c h d t u j k x y = ((x.0, y.0, c, rw x.1 h, rw y.1 d.0, pair_moved b r x.1 y.1 d.1), ap₂ (pair_target r) x.1 y.1 ∙ sym d.2, cc (x.1, x.2, y.1, y.2))
 
 -- ---- closed values
 

@@ -12,6 +12,16 @@ abbrev pub InBounds : Bounds → Cell → Type 0
 InBounds b (Ooa o m s depth) = (1 ≤ m) × (m ≤ b.m_max) × (1 ≤ s) × (s ≤ b.s_max) × (1 ≤ depth) × (depth ≤ m)
 InBounds b (Seq o m s) = (1 ≤ m) × (m ≤ b.m_max) × (1 ≤ s) × (s ≤ b.s_max)
 
+-- the order of its field
+abbrev pub order_of : Cell → Order
+order_of (Ooa o m s depth) = o
+order_of (Seq o m s) = o
+
+-- the columns of its systems
+abbrev pub columns_of : Cell → ℕ
+columns_of (Ooa o m s depth) = m
+columns_of (Seq o m s) = m
+
 -- the order of cells: by q; then arrays before sequences; arrays by m, s and depth, sequences by m and s
 abbrev pub Before : Cell → Cell → Type 0
 Before (Ooa o m s d) (Ooa p n t e) = (number_of o < number_of p) ⊎ ((o ≡ p) × ((m < n) ⊎ ((m ≡ n) × ((s < t) ⊎ ((s ≡ t) × (d < e))))))

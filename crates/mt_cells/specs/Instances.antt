@@ -3,7 +3,7 @@ use Rattle.std.specs.Prelude.{◌≡◌, ◌≢◌, ℕ, ◌+◌, ◌*◌, ◌�
 use Rattle.mt_cells.specs.declared.bounds.Bounds.{Bounds}
 use Rattle.mt_cells.specs.declared.cells.Cell.{Cell}
 use Rattle.mt_cells.specs.declared.rules.Rule.{Rule}
-use Rattle.mt_cells.specs.declared.rules.Rule.TheVariants.{Fewer, Shallower, Deeper, Longer, QuotientKeep, QuotientDrop, SeqFewer, SeqCut, SeqToNet}
+use Rattle.mt_cells.specs.declared.rules.Rule.TheVariants.{Fewer, Shallower, Deeper, Longer, QuotientKeep, QuotientDrop, SeqFewer, SeqCut, SeqToNet, Product, Uuv}
 use Rattle.mt_cells.specs.declared.rules.RuleSet.{RuleSet}
 use Rattle.mt_cells.specs.declared.instances.Instance.{Instance}
 use Rattle.mt_cells.specs.Cells.{InBounds}
@@ -20,6 +20,8 @@ has_rule rules QuotientDrop = rules.quotient_drop
 has_rule rules SeqFewer = rules.seq_fewer
 has_rule rules SeqCut = rules.seq_cut
 has_rule rules SeqToNet = rules.seq_to_net
+has_rule rules Product = rules.product
+has_rule rules Uuv = rules.uuv
 
 -- the rule leads from its parents, which are cells of the bounds, to the target
 abbrev pub Leads : Bounds → Rule → Cell → Cell → Option Cell → Type 0

@@ -1,10 +1,10 @@
 -- Propagation rules: their targets and what they conclude, from one parent or from two.
-use Rattle.std.specs.Prelude.{ℕ, ◌+◌, ◌-◌, ◌<◌, ◌≤◌, min}
+use Rattle.std.specs.Prelude.{◌≡◌, ◌==◌, ℕ, ◌+◌, ◌-◌, ◌*◌, ◌<◌, ◌≤◌, cond, min}
 use Rattle.mt_cells.specs.declared.bounds.Bounds.{Bounds}
 use Rattle.mt_cells.specs.declared.cells.Cell.{Cell}
 use Rattle.mt_cells.specs.declared.cells.Cell.TheVariants.{Ooa, Seq}
 use Rattle.mt_cells.specs.declared.rules.Rule.{Rule}
-use Rattle.mt_cells.specs.declared.rules.Rule.TheVariants.{Fewer, Shallower, Deeper, Longer, QuotientKeep, QuotientDrop, SeqFewer, SeqCut, SeqToNet}
+use Rattle.mt_cells.specs.declared.rules.Rule.TheVariants.{Fewer, Shallower, Deeper, Longer, QuotientKeep, QuotientDrop, SeqFewer, SeqCut, SeqToNet, Product, Uuv}
 
 -- the rule has a target for this parent in the bounds
 abbrev pub HasTarget : Bounds → Rule → Cell → Type 0
@@ -46,12 +46,23 @@ least_parent QuotientDrop = 1
 least_parent SeqCut = 1
 least_parent r = 0
 
--- the rule has a target for these two parents in the bounds
+-- the strength of a system of strength k whose depth is raised by zero rows
+abbrev pub deepened_strength : ℕ → ℕ → ℕ → ℕ
+deepened_strength depth deeper k = cond (depth == deeper) k (min k depth)
+
+-- the rule has a target for these two parents in the bounds: they are over one field, and the first is not deeper
 abbrev pub HasPairTarget : Bounds → Rule → Cell → Cell → Type 0
+HasPairTarget b Product (Ooa o m s depth) (Ooa p n t deeper) = (o ≡ p) × (depth ≤ deeper) × (m + n ≤ b.m_max) × (s + t ≤ b.s_max)
+HasPairTarget b Uuv (Ooa o m s depth) (Ooa p n t deeper) = (o ≡ p) × (depth ≤ deeper) × (m + n ≤ b.m_max) × (s + t ≤ b.s_max) × (s ≤ t)
 HasPairTarget b r p q = ⊥
 
 abbrev pub pair_target : Rule → Cell → Cell → Cell
+pair_target Product (Ooa o m s depth) (Ooa p n t deeper) = Ooa o (m + n) (s + t) deeper
+pair_target Uuv (Ooa o m s depth) (Ooa p n t deeper) = Ooa o (m + n) (s + t) deeper
 pair_target r p q = p
 
+-- the value of the target, from the values of its two parents
 abbrev pub pair_conclusion : Rule → Cell → Cell → ℕ → ℕ → ℕ
+pair_conclusion Product (Ooa o m s depth) (Ooa p n t deeper) j k = min (deepened_strength depth deeper j) k
+pair_conclusion Uuv (Ooa o m s depth) (Ooa p n t deeper) j k = min (2 * deepened_strength depth deeper j + 1) k
 pair_conclusion r p q j k = 0

@@ -50,6 +50,10 @@ pub struct Outside {
 pub enum Question {
     /// The value of a cell.
     Value(Ask),
+    /// A derivation of the value.
+    Tree(Ask),
+    /// The generator matrices that the derivation makes.
+    Matrix(Ask),
 }
 
 impl Ask {

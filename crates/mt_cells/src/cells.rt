@@ -1,6 +1,6 @@
 //! Cells and their numbers.
 ghost use Rattle.std.specs.Prelude.{◌≡◌, ◌+◌, ◌*◌, ◌<◌, ◌≤◌, ◌↔◌, IsSome, IfSome};
-ghost use Rattle.mt_cells.specs.Cells.{InBounds, number, place_of, arrays_of, per_order_of, cells_of};
+ghost use Rattle.mt_cells.specs.Cells.{InBounds, columns_of, order_of, number, place_of, arrays_of, per_order_of, cells_of};
 
 use crate::bounds::Bounds;
 use mt_linear::Order;
@@ -25,6 +25,25 @@ pub enum Cell {
 }
 
 impl Cell {
+    /// The number of columns of its systems.
+    pub fn columns(self) -> u8
+        ensures { result ≡ columns_of self }
+    {
+        match self {
+            Cell::Ooa { m, .. } | Cell::Seq { m, .. } => m,
+        }
+    }
+
+    // The order of the field.
+    #[inline(always)]
+    pub(crate) fn order(self) -> Order
+        ensures { result ≡ order_of self }
+    {
+        match self {
+            Cell::Ooa { order, .. } | Cell::Seq { order, .. } => order,
+        }
+    }
+
     /// The number of the cell among those of the bounds: its place in their order, from 0.
     #[inline(always)]
     pub fn number(self, bounds: Bounds) -> u32

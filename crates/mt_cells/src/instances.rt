@@ -1,9 +1,10 @@
 //! Instances of rules, and what they conclude.
 ghost use Rattle.std.specs.Prelude.{◌≡◌, ◌+◌, ◌*◌, ◌↔◌, IsTrue};
 ghost use Rattle.mt_cells.specs.Cells.{InBounds};
-ghost use Rattle.mt_cells.specs.Rules.{HasTarget, target, conclusion};
+ghost use Rattle.mt_cells.specs.Rules.{HasTarget, target, conclusion, deepened_strength};
+ghost use Rattle.mt_cells.specs.Rules.{HasPairTarget, pair_target, pair_conclusion as conclusion_of_pair};
 ghost use Rattle.mt_cells.specs.Instances.{conclusion_of, fan_of, IsListing};
-ghost use Rattle.mt_cells.specs.Places.{second_or, single_instance as single_of};
+ghost use Rattle.mt_cells.specs.Places.{second_or, single_instance as single_of, pair_instance as pair_of};
 
 use crate::bounds::Bounds;
 use crate::cells::Cell;
@@ -118,11 +119,35 @@ pub fn conclude<L: Ledger>(instance: &Instance, first: u8, second: u8, steps: &m
     ensures steps { steps.new ≡ steps.old + 1 }
 {
     steps.tick();
-    let _ = second;
     match instance.second {
         None => single_conclusion(instance.rule, instance.first, first),
-        Some(_) => 0,
+        Some(other) => pair_conclusion(instance.rule, instance.first, other, first, second),
     }
+}
+
+// What a rule with two parents concludes from their values.
+#[inline(always)]
+fn pair_conclusion(rule: Rule, p: Cell, q: Cell, j: u8, k: u8) -> u8
+    ensures { result ≡ conclusion_of_pair rule p q j k }
+{
+    let (Cell::Ooa { depth, .. }, Cell::Ooa { depth: deeper, .. }) = (p, q) else {
+        return 0;
+    };
+    match rule {
+        Rule::Product => deepened(depth, deeper, j).min(k),
+        Rule::Uuv => (2 * deepened(depth, deeper, j) as u16 + 1).min(k as u16) as u8,
+        Rule::Fewer | Rule::Shallower | Rule::Deeper | Rule::Longer => 0,
+        Rule::QuotientKeep | Rule::QuotientDrop => 0,
+        Rule::SeqFewer | Rule::SeqCut | Rule::SeqToNet => 0,
+    }
+}
+
+// The strength of a system of strength k after its depth is raised.
+#[inline(always)]
+fn deepened(depth: u8, deeper: u8, k: u8) -> u8
+    ensures { result ≡ deepened_strength depth deeper k }
+{
+    if depth == deeper { k } else { k.min(depth) }
 }
 
 // What a rule with one parent concludes from its value.
@@ -137,6 +162,7 @@ fn single_conclusion(rule: Rule, parent: Cell, k: u8) -> u8
         },
         Rule::QuotientKeep | Rule::QuotientDrop | Rule::SeqCut => k.saturating_sub(1),
         Rule::Fewer | Rule::Shallower | Rule::Longer | Rule::SeqFewer | Rule::SeqToNet => k,
+        Rule::Product | Rule::Uuv => k,
     }
 }
 
@@ -154,6 +180,7 @@ pub(crate) fn has_target(bounds: Bounds, rule: Rule, cell: Cell) -> bool
             Rule::QuotientKeep => 2 <= m && 2 <= depth,
             Rule::QuotientDrop => 2 <= m && 2 <= s && depth < m,
             Rule::SeqFewer | Rule::SeqCut | Rule::SeqToNet => false,
+            Rule::Product | Rule::Uuv => false,
         },
         Cell::Seq { m, s, .. } => match rule {
             Rule::SeqFewer => 2 <= s,
@@ -161,6 +188,7 @@ pub(crate) fn has_target(bounds: Bounds, rule: Rule, cell: Cell) -> bool
             Rule::SeqToNet => s < bounds.s_max,
             Rule::Fewer | Rule::Shallower | Rule::Deeper => false,
             Rule::Longer | Rule::QuotientKeep | Rule::QuotientDrop => false,
+            Rule::Product | Rule::Uuv => false,
         },
     }
 }
@@ -196,6 +224,7 @@ fn target_of(bounds: Bounds, rule: Rule, cell: Cell) -> Cell
             Rule::QuotientKeep => array(order, m - 1, s, depth - 1),
             Rule::QuotientDrop => array(order, m - 1, s - 1, depth),
             Rule::SeqFewer | Rule::SeqCut | Rule::SeqToNet => cell,
+            Rule::Product | Rule::Uuv => cell,
         },
         Cell::Seq { order, m, s } => match rule {
             Rule::SeqFewer => Cell::Seq { order, m, s: s - 1 },
@@ -203,12 +232,52 @@ fn target_of(bounds: Bounds, rule: Rule, cell: Cell) -> Cell
             Rule::SeqToNet => array(order, m, s + 1, m),
             Rule::Fewer | Rule::Shallower | Rule::Deeper => cell,
             Rule::Longer | Rule::QuotientKeep | Rule::QuotientDrop => cell,
+            Rule::Product | Rule::Uuv => cell,
         },
     }
 }
 
+// The instance of a rule with two parents.
 #[inline(always)]
-fn array(order: Order, m: u8, s: u8, depth: u8) -> Cell
+pub(crate) fn pair_instance(bounds: Bounds, rule: Rule, p: Cell, q: Cell) -> Instance
+    requires has { HasPairTarget bounds rule p q }
+    ensures { result ≡ pair_of rule p q }
+{
+    Instance {
+        rule,
+        target: target_of_pair(bounds, rule, p, q),
+        first: p,
+        second: Some(q),
+    }
+}
+
+#[inline(always)]
+fn target_of_pair(bounds: Bounds, rule: Rule, p: Cell, q: Cell) -> Cell
+    requires has { HasPairTarget bounds rule p q }
+    ensures { result ≡ pair_target rule p q }
+{
+    let _ = bounds;
+    match (p, q) {
+        (
+            Cell::Ooa { order, m, s, .. },
+            Cell::Ooa {
+                m: n,
+                s: t,
+                depth,
+                ..
+            },
+        ) => match rule {
+            Rule::Product | Rule::Uuv => array(order, m + n, s + t, depth),
+            Rule::Fewer | Rule::Shallower | Rule::Deeper | Rule::Longer => p,
+            Rule::QuotientKeep | Rule::QuotientDrop => p,
+            Rule::SeqFewer | Rule::SeqCut | Rule::SeqToNet => p,
+        },
+        _ => p,
+    }
+}
+
+#[inline(always)]
+pub(crate) fn array(order: Order, m: u8, s: u8, depth: u8) -> Cell
     ensures { result ≡ Cell.Ooa order m s depth }
 {
     Cell::Ooa { order, m, s, depth }

@@ -1,21 +1,30 @@
 //! The lines of instances of a parent.
-ghost use Rattle.std.specs.Prelude.{◌≡◌, ◌≢◌, ℕ, ◌+◌, ◌<◌, ◌≤◌, ◌⊎◌, ◌↔◌, true, IsTrue, IfSome, MatchOption};
+ghost use Rattle.std.specs.Prelude.{◌≡◌, ◌≢◌, ℕ, ◌+◌, ◌-◌, ◌<◌, ◌≤◌, ◌⊎◌, ◌↔◌, true, IsTrue, IfSome, MatchOption};
 ghost use Rattle.mt_cells.specs.Cells.{InBounds};
 ghost use Rattle.mt_cells.specs.Rules.{HasTarget};
 ghost use Rattle.mt_cells.specs.Instances.{fan_of, has_rule};
 ghost use Rattle.mt_cells.specs.Propositions.{InBounds-prop};
-ghost use Rattle.mt_cells.specs.Places.{IsPosition, IsPlace, IsRightLine, instance_at, key, left, rank, top as top_of, width};
+ghost use Rattle.mt_cells.specs.Places.{IsPosition, IsPlace, IsRightLine, instance_at, key, left, other, rank, width};
+ghost use Rattle.mt_cells.specs.Places.{coordinates_of, FitsFirst, FitsSecond, reach as reach_of};
 
 use crate::bounds::Bounds;
 use crate::cells::Cell;
-use crate::instances::{Instance, has_target, single_instance};
+use crate::instances::{Instance, array, has_target, pair_instance, single_instance};
 use crate::rules::{Rule, RuleSet};
 
 /// The kinds of instances that a parent has, in their order.
 #[derive(Clone, Copy, PartialEq, Eq, Debug)]
 pub enum Stage {
-    /// The instance of a rule with one parent.
+    /// The instance of a rule with one parent. A rule with two has none here.
     Single(Rule),
+    /// The direct products with the cell as first parent.
+    ProductFirst,
+    /// The direct products with the cell as second parent, but for that with itself.
+    ProductSecond,
+    /// Those by (u,u+v) with the cell as first parent.
+    UuvFirst,
+    /// Those by (u,u+v) with the cell as second parent, but for that with itself.
+    UuvSecond,
     End,
 }
 
@@ -33,7 +42,13 @@ impl Stage {
             Stage::Single(Rule::QuotientDrop) => Stage::Single(Rule::SeqFewer),
             Stage::Single(Rule::SeqFewer) => Stage::Single(Rule::SeqCut),
             Stage::Single(Rule::SeqCut) => Stage::Single(Rule::SeqToNet),
-            Stage::Single(Rule::SeqToNet) | Stage::End => Stage::End,
+            Stage::Single(Rule::SeqToNet) => Stage::Single(Rule::Product),
+            Stage::Single(Rule::Product) => Stage::Single(Rule::Uuv),
+            Stage::Single(Rule::Uuv) => Stage::ProductFirst,
+            Stage::ProductFirst => Stage::ProductSecond,
+            Stage::ProductSecond => Stage::UuvFirst,
+            Stage::UuvFirst => Stage::UuvSecond,
+            Stage::UuvSecond | Stage::End => Stage::End,
         }
     }
 }
@@ -93,9 +108,14 @@ impl Line {
         requires place { IsPlace bounds rules cell self.now.stage self.now.m self.now.depth s }
         ensures { result ≡ instance_at cell self.now.stage self.now.m self.now.depth s }
     {
-        let _ = (rules, s);
+        let _ = rules;
+        let other = array(cell.order(), self.m, s, self.depth);
         match self.stage {
             Stage::Single(rule) => single_instance(bounds, rule, cell),
+            Stage::ProductFirst => pair_instance(bounds, Rule::Product, cell, other),
+            Stage::ProductSecond => pair_instance(bounds, Rule::Product, other, cell),
+            Stage::UuvFirst => pair_instance(bounds, Rule::Uuv, cell, other),
+            Stage::UuvSecond => pair_instance(bounds, Rule::Uuv, other, cell),
             Stage::End => single_instance(bounds, Rule::Fewer, cell),
         }
     }
@@ -129,9 +149,79 @@ impl Lines {
                     line.last = 1;
                 }
             }
+            Stage::ProductFirst => line.last = self.room_of_second(Rule::Product),
+            Stage::ProductSecond => {
+                line.last = self.room_of_first(Rule::Product);
+                line.skip = self.own();
+            }
+            Stage::UuvFirst => {
+                line.first = self.coordinates();
+                line.last = self.room_of_second(Rule::Uuv);
+            }
+            Stage::UuvSecond => {
+                line.last = self.coordinates().min(self.room_of_first(Rule::Uuv));
+                line.skip = self.own();
+            }
             Stage::End => {}
         }
         line
+    }
+
+    // The coordinates of the cell.
+    fn coordinates(&self) -> u8
+        ensures { result ≡ coordinates_of self.now.cell }
+    {
+        match self.cell {
+            Cell::Ooa { s, .. } | Cell::Seq { s, .. } => s,
+        }
+    }
+
+    // The `s` at which the other parent is the cell itself, or 0.
+    fn own(&self) -> u8
+        ensures { (s : ℕ) → 1 ≤ s
+            → ((s ≢ result) ↔ (other self.now.cell self.now.m self.now.depth s ≢ self.now.cell)) }
+    {
+        match self.cell {
+            Cell::Ooa { m, s, depth, .. } if m == self.m && depth == self.depth => s,
+            _ => 0,
+        }
+    }
+
+    // The greatest `s` of a second parent; 0 where the cell is not the first with such.
+    fn room_of_second(&self, rule: Rule) -> u8
+        ensures high { result ≤ self.now.bounds.s_max - 1 }
+        ensures fits { (s : ℕ) → 1 ≤ s → ((s ≤ result) ↔ FitsFirst self.now.bounds self.now.rules rule
+            self.now.cell self.now.m self.now.depth s) }
+    {
+        match self.cell {
+            Cell::Ooa { m, s, depth, .. } if self.pairs(rule, m) && depth <= self.depth => {
+                self.bounds.s_max - s
+            }
+            _ => 0,
+        }
+    }
+
+    // The greatest `s` of a first parent; 0 where the cell is not the second with such.
+    fn room_of_first(&self, rule: Rule) -> u8
+        ensures high { result ≤ self.now.bounds.s_max - 1 }
+        ensures fits { (s : ℕ) → 1 ≤ s → ((s ≤ result) ↔ FitsSecond self.now.bounds self.now.rules rule
+            self.now.cell self.now.m self.now.depth s) }
+    {
+        match self.cell {
+            Cell::Ooa { m, s, depth, .. } if self.pairs(rule, m) && self.depth <= depth => {
+                self.bounds.s_max - s
+            }
+            _ => 0,
+        }
+    }
+
+    // Whether the rule is configured, and a cell with this m leaves room for the columns.
+    fn pairs(&self, rule: Rule, m: u8) -> bool
+        requires { m ≤ 16 }
+        ensures { IsTrue result ↔ ((has_rule self.now.rules rule ≡ true)
+            × (m + self.now.m ≤ self.now.bounds.m_max)) }
+    {
+        self.rules.has(rule) && m + self.m <= self.bounds.m_max
     }
 
     /// The next line that is not empty.
@@ -184,7 +274,7 @@ impl Lines {
     {
         if self.depth < self.m {
             self.depth += 1;
-        } else if self.m < self.top() {
+        } else if self.m < self.reach() {
             self.m += 1;
             self.depth = 1;
         } else {
@@ -195,11 +285,17 @@ impl Lines {
     }
 
     // The greatest `m` of the other parent.
-    fn top(&self) -> u8
-        ensures { result ≡ top_of self.now.bounds self.now.stage }
+    fn reach(&self) -> u8
+        ensures { result ≡ reach_of self.now.bounds self.now.cell self.now.stage }
     {
         match self.stage {
             Stage::Single(_) | Stage::End => 1,
+            Stage::ProductFirst | Stage::ProductSecond | Stage::UuvFirst | Stage::UuvSecond => {
+                match self.cell {
+                    Cell::Ooa { m, .. } => self.bounds.m_max - m,
+                    Cell::Seq { .. } => 1,
+                }
+            }
         }
     }
 }

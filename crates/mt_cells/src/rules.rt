@@ -25,6 +25,12 @@ pub enum Rule {
     SeqCut,
     /// A net of a sequence, with one coordinate more.
     SeqToNet,
+    /// The direct product of two arrays over one field. Zero rows bring the first to the depth of
+    /// the second.
+    Product,
+    /// The (u,u+v) construction of two arrays over one field, of which the first has no more
+    /// coordinates. Zero rows bring it to the depth of the second.
+    Uuv,
 }
 
 /// The rules that a table uses.
@@ -39,6 +45,8 @@ pub struct RuleSet {
     pub seq_fewer: bool,
     pub seq_cut: bool,
     pub seq_to_net: bool,
+    pub product: bool,
+    pub uuv: bool,
 }
 
 impl RuleSet {
@@ -56,6 +64,8 @@ impl RuleSet {
             seq_fewer: true,
             seq_cut: true,
             seq_to_net: true,
+            product: true,
+            uuv: true,
         }
     }
 
@@ -73,6 +83,8 @@ impl RuleSet {
             Rule::SeqFewer => self.seq_fewer,
             Rule::SeqCut => self.seq_cut,
             Rule::SeqToNet => self.seq_to_net,
+            Rule::Product => self.product,
+            Rule::Uuv => self.uuv,
         }
     }
 }

@@ -16,6 +16,7 @@ fn cells_and_their_numbers(rt: HostRuntime) -> Result<(), Fail> {
     for n in 0..34048u32 {
         let cell = Cell::of_number(bounds, n).ok_or("no cell")?;
         assert_eq!(rt; cell.number(bounds), n);
+        assert!(rt; cell.columns() <= bounds.m_max);
     }
     Ok(())
 }

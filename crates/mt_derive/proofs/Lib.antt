@@ -5,3 +5,4 @@ pub mod MarkLemmas
 pub mod FoundLemmas
 pub mod ReadyLemmas
 pub mod BuildLemmas
+pub mod ConcludedLemmas

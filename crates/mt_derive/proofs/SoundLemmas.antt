@@ -16,20 +16,21 @@ use Rattle.mt_cells.specs.declared.bounds.Bounds.{Bounds}
 use Rattle.mt_cells.specs.declared.cells.Cell.{Cell}
 use Rattle.mt_cells.specs.declared.cells.Cell.TheVariants.{Ooa, Seq}
 use Rattle.mt_cells.specs.declared.rules.Rule.{Rule}
-use Rattle.mt_cells.specs.declared.rules.Rule.TheVariants.{Fewer, Shallower, Deeper, Longer, QuotientKeep, QuotientDrop, SeqFewer, SeqCut, SeqToNet}
+use Rattle.mt_cells.specs.declared.rules.Rule.TheVariants.{Fewer, Shallower, Deeper, Longer, QuotientKeep, QuotientDrop, SeqFewer, SeqCut, SeqToNet, Product, Uuv}
 use Rattle.mt_cells.specs.declared.rules.RuleSet.{RuleSet}
 use Rattle.mt_cells.specs.Cells.{InBounds}
-use Rattle.mt_cells.specs.Rules.{HasTarget, target, conclusion}
+use Rattle.mt_cells.specs.Rules.{HasTarget, target, conclusion, deepened_strength, HasPairTarget, pair_target, pair_conclusion}
 use Rattle.mt_cells.specs.Trees.{Axiom, zero_rows, constant, identity, parity, HasAxiom, axiom_value, Entry, no_entry, entry_at}
 use Rattle.mt_cells.specs.Trees.{Tree, axiom_at, imported, one, two, cell_of, value_of, IsTree}
 use Rattle.mt_rules_basic.proofs.AxiomLemmas.{least_strength, constant_strength, identity_strength, parity_strength}
 use Rattle.mt_rules_basic.proofs.RowLemmas.{fewer_strength, shallower_strength, deeper_strength, longer_strength}
 use Rattle.mt_rules_basic.proofs.QuotientLemmas.{keep_strength, drop_strength}
 use Rattle.mt_rules_basic.proofs.SequenceLemmas.{sequence_least, fewer_sequence, cut_sequence, net_strength}
+use Rattle.mt_rules_pair.proofs.PairLemmas.{product_strength, uuv_strength}
 use Rattle.mt_derive.specs.Places.{IsAt}
 use Rattle.mt_derive.specs.Imports.{cell_by, entry_of, entries_of, AllHold, IsImport}
 use Rattle.mt_derive.specs.Laws.{TreesAreSound}
-use Rattle.mt_derive.specs.Systems.{IsWhole, IsAxiomSystem, IsRuleSystem, IsSystemOf, IsSized, HasValue, Has}
+use Rattle.mt_derive.specs.Systems.{IsWhole, IsAxiomSystem, IsRuleSystem, IsPairSystem, IsSystemOf, IsSized, HasValue, Has}
 
 -- a is a system of the cell with value k, which is not over its columns
 pub record IsWithin (c : Cell) (a : Matrices) (k : ℕ) : Type 0 where
@@ -78,7 +79,7 @@ form_within form.Net k a claim holds = from_parts _ a k (refl, refl, refl, refl)
 form_within form.Seq k a claim holds = from_parts _ a k (refl, refl, refl, claim.sequence refl) holds claim.strength
 
 -- the entry at a claim's place is the claim's
-entry_is : (L : List Statement) (i : ℕ) (c : Statement) → IsAt L i c → get_or (entries_of L) i no_entry ≡ entry_of c
+pub entry_is : (L : List Statement) (i : ℕ) (c : Statement) → IsAt L i c → get_or (entries_of L) i no_entry ≡ entry_of c
 entry_is [] i c at = absurd at
 entry_is (x ∷ xs) zero c at = ap entry_of at
 entry_is (x ∷ xs) (suc i) c at = entry_is xs i c at
@@ -146,15 +147,30 @@ rule_within b SeqToNet (Seq o m s) k p a leads whole made parent =
     from_parts (Ooa o m (s + 1) m) a k
     (made.order ∙ z.0, made.columns ∙ z.1, omega (arith, made.coordinates, z.2), made.depth ∙ z.3)
     (net_strength p a k parent.within made parent.has.value) (omega (arith, parent.within, made.columns))
-rule_within b Fewer (Seq o m s) k p a leads whole made parent = absurd leads
-rule_within b Shallower (Seq o m s) k p a leads whole made parent = absurd leads
-rule_within b Deeper (Seq o m s) k p a leads whole made parent = absurd leads
-rule_within b Longer (Seq o m s) k p a leads whole made parent = absurd leads
-rule_within b QuotientKeep (Seq o m s) k p a leads whole made parent = absurd leads
-rule_within b QuotientDrop (Seq o m s) k p a leads whole made parent = absurd leads
-rule_within b SeqFewer (Ooa o m s depth) k p a leads whole made parent = absurd leads
-rule_within b SeqCut (Ooa o m s depth) k p a leads whole made parent = absurd leads
-rule_within b SeqToNet (Ooa o m s depth) k p a leads whole made parent = absurd leads
+rule_within b r c k p a leads whole made parent = absurd leads
+
+-- a rule's system of two parents is one of its target
+pub pair_rule_within : (b : Bounds) (r : Rule) (c d : Cell) (j k : ℕ) (p q a : Matrices) → HasPairTarget b r c d → IsWhole p → IsWhole q
+    → IsPairSystem r p q a → IsWithin c p j → IsWithin d q k → IsWithin (pair_target r c d) a (pair_conclusion r c d j k)
+pair_rule_within b Product (Ooa o m s depth) (Ooa u n t deeper) j k p q a leads whole also made first second =
+    let z : IsSized (Ooa o m s depth) p = first.has.sized in
+    let w : IsSized (Ooa u n t deeper) q = second.has.sized in
+    from_parts (Ooa o (m + n) (s + t) deeper) a (min (deepened_strength depth deeper j) k)
+    (made.order ∙ w.0 ∙ sym leads.0, omega (arith, made.columns, z.1, w.1), omega (arith, made.coordinates, z.2, w.2), made.depth ∙ w.3)
+    (subst (λ x. Strength a (min (deepened_strength x deeper j) k)) z.3
+    (subst (λ x. Strength a (min (deepened_strength p.depth x j) k)) w.3
+    (product_strength p q a j k (z.0 ∙ leads.0 ∙ sym w.0) made first.has.value second.has.value)))
+    (omega (arith, second.within, made.columns))
+pair_rule_within b Uuv (Ooa o m s depth) (Ooa u n t deeper) j k p q a leads whole also made first second =
+    let z : IsSized (Ooa o m s depth) p = first.has.sized in
+    let w : IsSized (Ooa u n t deeper) q = second.has.sized in
+    from_parts (Ooa o (m + n) (s + t) deeper) a (min (2 * deepened_strength depth deeper j + 1) k)
+    (made.order ∙ w.0 ∙ sym leads.0, omega (arith, made.columns, z.1, w.1), omega (arith, made.coordinates, z.2, w.2), made.depth ∙ w.3)
+    (subst (λ x. Strength a (min (2 * deepened_strength x deeper j + 1) k)) z.3
+    (subst (λ x. Strength a (min (2 * deepened_strength p.depth x j + 1) k)) w.3
+    (uuv_strength p q a j k (z.0 ∙ leads.0 ∙ sym w.0) (omega (arith, z.2, w.2, leads.4)) made first.has.value second.has.value)))
+    (omega (arith, second.within, made.columns))
+pair_rule_within b r c d j k p q a leads whole also made first second = absurd leads
 
 -- ---- trees
 
@@ -167,7 +183,10 @@ tree_within b rules L all (imported n) a tree made =
 tree_within b rules L all (one r t) a tree made =
     rule_within b r (cell_of (entries_of L) t) (value_of (entries_of L) t) made.0 a tree.3 made.1 made.3
     (tree_within b rules L all t made.0 tree.0 made.2)
-tree_within b rules L all (two r t u) a tree made = absurd made
+tree_within b rules L all (two r t u) a tree made =
+    pair_rule_within b r (cell_of (entries_of L) t) (cell_of (entries_of L) u) (value_of (entries_of L) t) (value_of (entries_of L) u)
+    made.0 made.1 a tree.5 made.2 made.3 made.6
+    (tree_within b rules L all t made.0 tree.0 made.4) (tree_within b rules L all u made.1 tree.1 made.5)
 
 -- trees are sound, whatever the bounds, the rules and the claims
 pub trees_are_sound : (b : Bounds) (rules : RuleSet) (L : List Statement) → TreesAreSound b rules L

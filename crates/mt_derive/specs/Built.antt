@@ -1,16 +1,16 @@
 -- Systems of nodes.
-use Rattle.std.specs.Prelude.{◌≡◌, ◌≢◌, ℕ, ◌<◌, ◌≤◌, List, get_or, slice_index}
+use Rattle.std.specs.Prelude.{◌≡◌, ◌≢◌, ℕ, ◌<◌, ◌≤◌, List, get_or, slice_index, ◌+◌}
 use Rattle.mt_system.specs.Rows.{Matrices, row_of}
 use Rattle.mt_system.specs.Statements.{Statement}
 use Rattle.mt_cells.specs.declared.rules.Rule.{Rule}
-use Rattle.mt_cells.specs.declared.rules.Rule.TheVariants.{Fewer, Shallower, Deeper, Longer, QuotientKeep, QuotientDrop, SeqFewer, SeqCut, SeqToNet}
+use Rattle.mt_cells.specs.declared.rules.Rule.TheVariants.{Fewer, Shallower, Deeper, Longer, QuotientKeep, QuotientDrop, SeqFewer, SeqCut, SeqToNet, Product, Uuv}
 use Rattle.mt_cells.specs.Trees.{Tree}
 use Rattle.mt_derive.specs.declared.nodes.Made.TheVariants as made
 use Rattle.mt_derive.specs.declared.nodes.Node.{Node}
 use Rattle.mt_derive.specs.Imports.{IsImport, entry_of}
 use Rattle.mt_derive.specs.Places.{IsAt}
 use Rattle.mt_derive.specs.Systems.{IsSystemOf, Has}
-use Rattle.mt_derive.specs.Nodes.{IsTreeOf}
+use Rattle.mt_derive.specs.Nodes.{IsTreeOf, IsParent}
 
 -- a is the system that the tree of node n makes, and one of the node's cell with its value
 pub record IsBuilt (nodes : List Node) (L : List Statement) (n : ℕ) (a : Matrices) : Type 0 where
@@ -36,10 +36,10 @@ ShowsImport nodes L n =
     (i : ℕ) (node : Node) → IsAt nodes n node → node.made ≡ made.Import i
     → (c : Statement) × IsImport L i c × (entry_of c ≡ record { cell = node.cell; k = node.k })
 
--- if the node has a parent, which stands before it, this is one of the first count numbers
+-- each parent of the node, where it stands before it, is one of the first count numbers
 abbrev pub HasParentIn : List Node → List ℕ → ℕ → ℕ → Type 0
 HasParentIn nodes order count n =
-    (r : Rule) (p : ℕ) (node parent : Node) → IsAt nodes n node → node.made ≡ made.One r p → p < n → IsAt nodes p parent
+    (p : ℕ) (node parent : Node) → IsAt nodes n node → IsParent node.made p → p < n → IsAt nodes p parent
     → (place : ℕ) × (place < count) × (get_or order place 0 ≡ p)
 
 -- the first row of the first coordinate is not zero
@@ -57,3 +57,15 @@ IsReady QuotientDrop p = (2 ≤ p.columns) × (2 ≤ p.coordinates) × HasFirstR
 IsReady SeqFewer p = (2 ≤ p.coordinates) × (p.depth ≡ p.columns)
 IsReady SeqCut p = (2 ≤ p.columns) × (p.depth ≡ p.columns)
 IsReady SeqToNet p = (p.coordinates < 255) × (p.depth ≡ p.columns)
+IsReady r p = ⊥
+
+-- p and q are over one field, p is not the deeper one, and their sizes add up to less than 256
+abbrev pub FitTogether : Matrices → Matrices → Type 0
+FitTogether p q =
+    (p.order ≡ q.order) × (p.depth ≤ q.depth) × (p.columns + q.columns < 256) × (p.coordinates + q.coordinates < 256)
+
+-- the rule can be used on p and q
+abbrev pub IsPairReady : Rule → Matrices → Matrices → Type 0
+IsPairReady Product p q = FitTogether p q
+IsPairReady Uuv p q = FitTogether p q × (p.coordinates ≤ q.coordinates)
+IsPairReady r p q = ⊥

@@ -6,3 +6,4 @@ pub mod Laws
 pub mod Axioms
 pub mod Marks
 pub mod Built
+pub mod Concluded

@@ -4,10 +4,11 @@ use Rattle.mt_system.specs.Rows.{Matrices, IsSystem, Strength, SequenceStrength}
 use Rattle.mt_system.specs.Statements.{Statement}
 use Rattle.mt_rules_basic.specs.Axioms.{IsZero, IsConstant, IsIdentity, IsParity}
 use Rattle.mt_rules_basic.specs.Rules.{IsFewer, IsShallower, IsDeeper, IsLonger, IsQuotientKeep, IsQuotientDrop, IsCut, IsNet}
+use Rattle.mt_rules_pair.specs.Pairs.{IsProduct, IsUuv}
 use Rattle.mt_cells.specs.declared.cells.Cell.{Cell}
 use Rattle.mt_cells.specs.declared.cells.Cell.TheVariants.{Ooa, Seq}
 use Rattle.mt_cells.specs.declared.rules.Rule.{Rule}
-use Rattle.mt_cells.specs.declared.rules.Rule.TheVariants.{Fewer, Shallower, Deeper, Longer, QuotientKeep, QuotientDrop, SeqFewer, SeqCut, SeqToNet}
+use Rattle.mt_cells.specs.declared.rules.Rule.TheVariants.{Fewer, Shallower, Deeper, Longer, QuotientKeep, QuotientDrop, SeqFewer, SeqCut, SeqToNet, Product, Uuv}
 use Rattle.mt_cells.specs.Trees.{Axiom, zero_rows, constant, identity, parity, Tree, axiom_at, imported, one, two}
 use Rattle.mt_derive.specs.Imports.{IsImport}
 
@@ -57,10 +58,18 @@ IsRuleSystem QuotientDrop p a = IsQuotientDrop p a
 IsRuleSystem SeqFewer p a = IsFewer p a
 IsRuleSystem SeqCut p a = IsCut p a
 IsRuleSystem SeqToNet p a = IsNet p a
+IsRuleSystem r p a = ⊥
+
+-- the rule makes a of p and q
+abbrev pub IsPairSystem : Rule → Matrices → Matrices → Matrices → Type 0
+IsPairSystem Product p q a = IsProduct p q a
+IsPairSystem Uuv p q a = IsUuv p q a
+IsPairSystem r p q a = ⊥
 
 -- a is the system that the tree makes, over the imports L
 abbrev pub IsSystemOf : List Statement → Tree → Matrices → Type 0
 IsSystemOf L (axiom_at x c) a = IsAxiomSystem x c a
 IsSystemOf L (imported n) a = (c : Statement) × IsImport L n c × (a ≡ c.system)
 IsSystemOf L (one r t) a = (p : Matrices) × IsWhole p × IsSystemOf L t p × IsRuleSystem r p a
-IsSystemOf L (two r t u) a = ⊥
+IsSystemOf L (two r t u) a =
+    (p q : Matrices) × IsWhole p × IsWhole q × IsSystemOf L t p × IsSystemOf L u q × IsPairSystem r p q a

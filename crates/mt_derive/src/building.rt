@@ -1,10 +1,12 @@
 //! The system of a node.
 ghost use Rattle.std.specs.Prelude.{◌≡◌, ◌≢◌, ℕ, ◌<◌, ◌≤◌, length, get_or, IfOk, MatchOption};
+ghost use Rattle.mt_derive.specs.Places.{IsAt};
 ghost use Rattle.mt_derive.specs.Nodes.{ShowsImports};
+ghost use Rattle.mt_derive.specs.Systems.{IsWhole};
 ghost use Rattle.mt_derive.specs.Built.{IsBuilt, IsKnown, AreKnown, ShowsImport, HasParentIn};
 
 use crate::imports::Imports;
-use crate::making::{axiom_system, copy_of, made_by};
+use crate::making::{axiom_system, copy_of, made_by, made_by_two};
 use crate::nodes::{Made, Nodes};
 use crate::reaching::reachable;
 use mt_system::System;
@@ -22,6 +24,24 @@ fn place_of(numbers: &[u32], number: u32) -> Option<usize>
         }
     }
     None
+}
+
+// The system of the node of this number, whose place in `order` has one.
+fn system_at<'a>(order: &[u32], systems: &'a [System], number: u32) -> &'a System
+    requires few { length systems.now ≤ length order.now }
+    requires place { (place : ℕ) × (place < length systems.now) × (get_or order.now place 0 ≡ number) }
+    ensures place { (place : ℕ) × (get_or order.now place 0 ≡ number) × IsAt systems.now place result.now }
+    ensures whole { IsWhole result.now }
+{
+    match place_of(&order[..systems.len()], number) {
+        Some(place) => {
+            let parent = &systems[place];
+            // it is a whole system
+            let _ = parent.order();
+            parent
+        }
+        None => unreachable!(),
+    }
 }
 
 // The system of a node, where those of the nodes before it in `order` are there.
@@ -43,20 +63,17 @@ fn system_of(
     let node = nodes.get(number);
     match node.made {
         Made::Import(n) => copy_of(alloc, &imports.get(n).system),
-        Made::One(rule, parent) => match place_of(&order[..systems.len()], parent) {
-            Some(place) => {
-                let parent = &systems[place];
-                // a parent is a whole system
-                let _ = parent.order();
-                made_by(alloc, rule, parent)
-            }
-            None => unreachable!(),
-        },
+        Made::One(rule, parent) => made_by(alloc, rule, system_at(order, systems, parent)),
+        Made::Two(rule, first, second) => {
+            let first = system_at(order, systems, first);
+            let second = system_at(order, systems, second);
+            made_by_two(alloc, rule, first, second)
+        }
         made => axiom_system(alloc, made, node.cell),
     }
 }
 
-/// The system of node `n`: each node of its tree is built once, after its parent.
+/// The system of node `n`: each node of its tree is built once, after its parents.
 ///
 /// It has the node's cell and value, whatever the tree.
 pub fn build(alloc: Global, nodes: &Nodes, imports: &Imports, n: u32) -> Result<System, AllocError>

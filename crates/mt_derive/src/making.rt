@@ -4,12 +4,13 @@ ghost use Rattle.mt_cells.specs.declared.bounds.Bounds.{Bounds};
 ghost use Rattle.mt_cells.specs.Cells.{InBounds};
 ghost use Rattle.mt_cells.specs.Trees.{Axiom, HasAxiom};
 ghost use Rattle.mt_derive.specs.Nodes.{made_of};
-ghost use Rattle.mt_derive.specs.Systems.{IsAxiomSystem, IsRuleSystem};
-ghost use Rattle.mt_derive.specs.Built.{IsReady};
+ghost use Rattle.mt_derive.specs.Systems.{IsAxiomSystem, IsRuleSystem, IsPairSystem};
+ghost use Rattle.mt_derive.specs.Built.{IsReady, IsPairReady};
 
 use crate::nodes::Made;
 use mt_cells::{Cell, Rule};
 use mt_rules_basic as rules;
+use mt_rules_pair as pairs;
 use mt_system::System;
 use std::alloc::{AllocError, Global};
 
@@ -24,7 +25,7 @@ pub(crate) fn axiom_system(alloc: Global, made: Made, cell: Cell) -> Result<Syst
             Made::Constant => rules::constant(alloc, order, m, s, depth),
             Made::Identity => rules::identity(alloc, order, m),
             Made::Parity => rules::parity(alloc, order, m),
-            Made::Zero | Made::Import(_) | Made::One(_, _) => {
+            Made::Zero | Made::Import(_) | Made::One(_, _) | Made::Two(_, _, _) => {
                 rules::zero(alloc, order, m, s, depth)
             }
         },
@@ -63,5 +64,23 @@ pub(crate) fn made_by(alloc: Global, rule: Rule, parent: &System) -> Result<Syst
         Rule::SeqFewer => rules::seq_fewer(alloc, parent),
         Rule::SeqCut => rules::seq_cut(alloc, parent),
         Rule::SeqToNet => rules::seq_to_net(alloc, parent),
+        Rule::Product | Rule::Uuv => unreachable!(),
+    }
+}
+
+// The system that the rule makes of the two parents.
+pub(crate) fn made_by_two(
+    alloc: Global,
+    rule: Rule,
+    first: &System,
+    second: &System,
+) -> Result<System, AllocError>
+    requires { IsPairReady rule first.now second.now }
+    ensures { IfOk result (IsPairSystem rule first.now second.now) }
+{
+    match rule {
+        Rule::Product => pairs::product(alloc, first, second),
+        Rule::Uuv => pairs::uuv(alloc, first, second),
+        _ => unreachable!(),
     }
 }

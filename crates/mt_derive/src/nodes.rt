@@ -20,6 +20,8 @@ pub enum Made {
     Import(u32),
     /// What the rule makes of the node of this number, counted from 0.
     One(Rule, u32),
+    /// What the rule makes of the nodes of these numbers, counted from 0, the first parent first.
+    Two(Rule, u32, u32),
 }
 
 /// A system of a cell, with a value that it has.

@@ -5,11 +5,11 @@ use Rattle.mt_linear.specs.declared.Order.{Order}
 use Rattle.mt_linear.proofs.Abstract.{Ops, HasFieldLaws, sum_null, mul_null, digit, field_of, field_laws}
 use Rattle.mt_linear.proofs.Sums.{null_mul, sum_one}
 use Rattle.mt_system.specs.Rows.{Matrices, Strength}
+use Rattle.mt_system.specs.Digits.{unit}
 use Rattle.mt_system.proofs.AbstractStrength.{Table, size_of, size_at, combination, HasStrength}
 use Rattle.mt_system.proofs.StrengthBridge.{strength_lowered}
-use Rattle.mt_rules_basic.specs.Digits.{unit}
+use Rattle.mt_system.proofs.Makes.{strength_from_digits}
 use Rattle.mt_rules_basic.specs.Axioms.{IsConstant, IsIdentity, IsParity}
-use Rattle.mt_rules_basic.proofs.Makes.{strength_from_digits}
 
 -- two sizes are not over the whole
 size_two : (s : ℕ) (d : ℕ → ℕ) (i e : ℕ) → i < s → e < i → d i + d e ≤ size_of s d

@@ -1,8 +1,6 @@
-pub mod Makes
 pub mod RowLemmas
 pub mod SequenceLemmas
 pub mod AxiomLemmas
 pub mod AbstractQuotients
 pub mod QuotientLemmas
 pub mod PaddedLemmas
-pub mod MakeLemmas

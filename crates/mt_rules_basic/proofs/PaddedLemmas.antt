@@ -1,21 +1,10 @@
 -- A parent's digits in other sizes are the digits of the rules that drop or add.
 use Rattle.std.proofs.Common.{◌≡◌, ℕ, suc, ◌-◌, ◌<◌, ◌≤◌, cond, ltb, ap, ◌∙◌, arith}
 use Rattle.std.proofs.lemmas.Bool.{cond-true, lt-ltb}
-use Rattle.mt_linear.specs.declared.Order.{Order}
 use Rattle.mt_system.specs.Rows.{Matrices}
-use Rattle.mt_rules_basic.specs.Digits.{digit_of, padded, HasDigits}
+use Rattle.mt_system.specs.Digits.{digit_of, padded, HasDigits}
+use Rattle.mt_system.proofs.Makes.{with_digits}
 use Rattle.mt_rules_basic.specs.Rules.{IsFewer, IsShallower, IsDeeper, IsLonger, IsCut}
-
--- equal sizes and digits
-pub with_digits : (b : Matrices) (o : Order) (m s d n r e : ℕ) (f g : ℕ → ℕ → ℕ → ℕ) → m ≡ n → s ≡ r → d ≡ e
-    → ((i j c : ℕ) → i < r → j < e → c < n → f i j c ≡ g i j c) → HasDigits b o m s d f → HasDigits b o n r e g
-with_digits b o m s d n r e f g columns coordinates depth same h = record {
-  order = h.order;
-  columns = h.columns ∙ columns;
-  coordinates = h.coordinates ∙ coordinates;
-  depth = h.depth ∙ depth;
-  digits = λ i j c hi hj hc. h.digits i j c (omega arith) (omega arith) (omega arith) ∙ same i j c hi hj hc;
-}
 
 -- within its sizes the digits are the parent's
 padded_within : (a : Matrices) (i j c : ℕ) → i < a.coordinates → j < a.depth → c < a.columns → padded a i j c ≡ digit_of a i j c

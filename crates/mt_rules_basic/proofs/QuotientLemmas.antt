@@ -1,20 +1,16 @@
 -- A quotient of a system loses at most one from the strength.
 use Rattle.std.proofs.Common.{◌≡◌, ◌≢◌, ℕ, suc, ◌-◌, ◌%◌, ◌<◌, List, length, slice_index, sym, ap, ◌∙◌, arith, length-take}
 use Rattle.mt_linear.specs.declared.Order.{Order}
-use Rattle.mt_linear.specs.Field.{number_of, neg_of, inv_of}
+use Rattle.mt_linear.specs.Field.{number_of, inv_of}
 use Rattle.mt_linear.specs.Linear.{AllElements}
-use Rattle.mt_linear.proofs.FieldLaws.{number_pos, mul_mod_left, neg_mod}
-use Rattle.mt_linear.proofs.Abstract.{digit, digit-injective, digit-add, digit-mul, field_of, field_laws}
+use Rattle.mt_linear.proofs.FieldLaws.{number_pos, mul_mod_left}
+use Rattle.mt_linear.proofs.Abstract.{digit, digit-injective, digit-add, digit-mul, digit-neg, field_of, field_laws}
 use Rattle.mt_system.specs.Rows.{Matrices, row_of, Strength}
 use Rattle.mt_system.proofs.AbstractStrength.{strength_cong}
 use Rattle.mt_system.proofs.StrengthBridge.{table_of, strength_lifted}
+use Rattle.mt_system.proofs.Makes.{strength_from_digits}
 use Rattle.mt_rules_basic.specs.Rules.{IsPivot, reduced as reduced_digit, modulo_first, remaining_row, IsQuotientKeep, IsQuotientDrop}
 use Rattle.mt_rules_basic.proofs.AbstractQuotients.{reduced, kept, dropped, kept_strength, dropped_strength}
-use Rattle.mt_rules_basic.proofs.Makes.{strength_from_digits}
-
--- negatives of any numbers, also from the order on
-digit-neg : (o : Order) (a : ℕ) → digit o (neg_of o a) ≡ (field_of o).neg (digit o a)
-digit-neg o a = ap (digit o) (sym (neg_mod o a))
 
 -- the inverse of a number is that of its remainder
 inv_mod : (o : Order) (a : ℕ) → inv_of o (a % number_of o) ≡ inv_of o a

@@ -1,19 +1,14 @@
 -- Strength where a coordinate or rows are dropped, and where zero rows or a zero column are added.
-use Rattle.std.proofs.Common.{◌≡◌, ℕ, zero, suc, ◌+◌, ◌-◌, ◌<◌, ◌≤◌, min, inl, inr, ltb, refl, sym, ap, ap₂, ◌∙◌, arith}
+use Rattle.std.proofs.Common.{◌≡◌, ℕ, zero, suc, ◌-◌, ◌<◌, min, inl, inr, ltb, refl, sym, ap, ap₂, ◌∙◌, arith}
 use Rattle.std.proofs.lemmas.Bool.{cases_lt, cond-true, lt-ltb}
 use Rattle.mt_linear.proofs.Abstract.{Ops, HasFieldLaws, sum_of, sum_cong, digit, field_of, field_laws}
 use Rattle.mt_system.specs.Rows.{Matrices, Strength}
-use Rattle.mt_system.proofs.AbstractStrength.{Table, size_of, size_at, HasStrength, strength_cong}
+use Rattle.mt_system.specs.Digits.{digit_of}
+use Rattle.mt_system.proofs.AbstractStrength.{Table, size_cong, HasStrength, continued}
 use Rattle.mt_system.proofs.StrengthBridge.{table_of, strength_lifted}
 use Rattle.mt_system.proofs.Distance.{pick, pick_low, pick_high}
-use Rattle.mt_rules_basic.specs.Digits.{digit_of}
+use Rattle.mt_system.proofs.Makes.{strength_from_digits}
 use Rattle.mt_rules_basic.specs.Rules.{IsFewer, IsShallower, IsDeeper, IsLonger}
-use Rattle.mt_rules_basic.proofs.Makes.{strength_from_digits}
-
--- sizes that agree have one sum
-size_cong : (s : ℕ) (d e : ℕ → ℕ) → ((i : ℕ) → i < s → d i ≡ e i) → size_of s d ≡ size_of s e
-size_cong zero d e h = refl
-size_cong (suc s) d e h = ap₂ ◌+◌ (size_cong s d e (λ i g. h i (omega arith))) (h s (omega arith))
 
 -- the coordinates but the last have the strength of all
 without_last : {K : Type 0} (F : Ops K) → HasFieldLaws F → (R : Table K) (s depth m k : ℕ)
@@ -42,13 +37,6 @@ pub fewer : {K : Type 0} (F : Ops K) → HasFieldLaws F → (R : Table K) (s dep
     → HasStrength F R s depth m k → HasStrength F R (s - 1) depth m k
 fewer F L R zero depth m k strength = strength
 fewer F L R (suc s) depth m k strength = let e : suc s - 1 ≡ s = omega arith in rw e (without_last F L R s depth m k strength)
-
--- rows S that begin as R does, in as many columns or more, have strength l ≤ k where no choice of l rows reaches past depth
-continued : {K : Type 0} (F : Ops K) (R S : Table K) (s depth m k larger n l : ℕ)
-    → ((i j c : ℕ) → i < s → j < depth → c < m → R i j c ≡ S i j c) → m ≤ n → l ≤ k → min larger l ≤ depth
-    → HasStrength F R s depth m k → HasStrength F S s larger n l
-continued F R S s depth m k larger n l same wide few reach strength d le size x z =
-    strength_cong F R S s depth m k same strength d (λ i h. omega (arith, le i h, size_at s d i h)) (omega arith) x (λ c h. z c (omega arith))
 
 -- a choice from the coordinates but the last is one from all
 pub fewer_strength : (a b : Matrices) (k : ℕ) → IsFewer a b → Strength a k → Strength b k

@@ -4,11 +4,11 @@ use Rattle.std.proofs.lemmas.Bool.{cases_lt, cond-true, cond-false, lt-ltb, le-l
 use Rattle.mt_linear.proofs.Abstract.{Ops, HasFieldLaws, sum_of, sum_cong, sum_null, null_add, mul_null, digit, field_of, field_laws}
 use Rattle.mt_linear.proofs.Sums.{null_mul, sum_one}
 use Rattle.mt_system.specs.Rows.{Matrices, Strength, SequenceStrength}
+use Rattle.mt_system.specs.Digits.{digit_of, unit}
 use Rattle.mt_system.proofs.AbstractStrength.{Table, combination, HasStrength, HasSequenceStrength, size_at}
 use Rattle.mt_system.proofs.StrengthBridge.{table_of, sequence_lifted, sequence_lowered}
-use Rattle.mt_rules_basic.specs.Digits.{digit_of, unit}
+use Rattle.mt_system.proofs.Makes.{strength_from_digits, sequence_from_digits}
 use Rattle.mt_rules_basic.specs.Rules.{IsFewer, IsCut, IsNet}
-use Rattle.mt_rules_basic.proofs.Makes.{strength_from_digits, sequence_from_digits}
 use Rattle.mt_rules_basic.proofs.RowLemmas.{fewer}
 
 -- the rows of A, and a last coordinate of the unit vectors from the last to the first

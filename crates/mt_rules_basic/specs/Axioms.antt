@@ -2,7 +2,7 @@
 use Rattle.std.specs.Prelude.{ℕ, suc, ◌==◌, cond, ltb}
 use Rattle.mt_linear.specs.declared.Order.{Order}
 use Rattle.mt_system.specs.Rows.{Matrices}
-use Rattle.mt_rules_basic.specs.Digits.{HasDigits, unit}
+use Rattle.mt_system.specs.Digits.{HasDigits, unit}
 
 -- all rows are zero
 abbrev pub IsZero : Order → ℕ → ℕ → ℕ → Matrices → Type 0

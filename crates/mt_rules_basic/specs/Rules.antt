@@ -3,7 +3,7 @@ use Rattle.std.specs.Prelude.{◌≡◌, ◌≢◌, ℕ, zero, suc, ◌-◌, ◌
 use Rattle.mt_linear.specs.declared.Order.{Order}
 use Rattle.mt_linear.specs.Field.{add_of, mul_of, neg_of, inv_of}
 use Rattle.mt_system.specs.Rows.{Matrices, row_of}
-use Rattle.mt_rules_basic.specs.Digits.{digit_of, HasDigits, unit}
+use Rattle.mt_system.specs.Digits.{digit_of, HasDigits, unit}
 
 -- the last coordinate is dropped
 abbrev pub IsFewer : Matrices → Matrices → Type 0

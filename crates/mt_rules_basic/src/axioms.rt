@@ -1,12 +1,11 @@
 //! Systems that need no parent.
 ghost use Rattle.std.specs.Prelude.{◌≡◌, ℕ, zero, suc, ◌+◌, ◌<◌, ◌==◌, cond, ltb, IfOk};
 ghost use Rattle.mt_system.specs.Rows.{Strength, SequenceStrength};
-ghost use Rattle.mt_rules_basic.specs.Digits.{unit};
+ghost use Rattle.mt_system.specs.Digits.{unit};
 ghost use Rattle.mt_rules_basic.specs.Axioms.{IsZero, IsConstant, IsIdentity, IsParity};
 
-use crate::making::{Formula, Sizes, make};
 use mt_linear::Order;
-use mt_system::System;
+use mt_system::{Formula, Sizes, System, make};
 use std::alloc::{AllocError, Global};
 
 #[derive(Drop)]

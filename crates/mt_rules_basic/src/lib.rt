@@ -3,7 +3,6 @@
 #![tactic(auto)]
 
 mod axioms;
-mod making;
 mod quotients;
 mod rows;
 mod sequences;

@@ -5,8 +5,7 @@ ghost use Rattle.mt_linear.specs.Linear.{AllElements};
 ghost use Rattle.mt_system.specs.Rows.{IsSystem, Strength, row_of};
 ghost use Rattle.mt_rules_basic.specs.Rules.{IsPivot, modulo_first, remaining_row, IsQuotientKeep, IsQuotientDrop};
 
-use crate::making::{Formula, Sizes, make};
-use mt_system::System;
+use mt_system::{Formula, Sizes, System, make};
 use std::alloc::{AllocError, Global};
 
 // A digit of a row modulo the first row of the first coordinate, whose first column that is not 0

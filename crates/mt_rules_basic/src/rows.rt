@@ -1,11 +1,10 @@
 //! Coordinates, rows and columns dropped or added.
 ghost use Rattle.std.specs.Prelude.{◌≡◌, ℕ, ◌+◌, ◌-◌, ◌<◌, ◌≤◌, min, IfOk};
 ghost use Rattle.mt_system.specs.Rows.{Strength};
-ghost use Rattle.mt_rules_basic.specs.Digits.{padded};
+ghost use Rattle.mt_system.specs.Digits.{padded};
 ghost use Rattle.mt_rules_basic.specs.Rules.{IsFewer, IsShallower, IsDeeper, IsLonger};
 
-use crate::making::{Formula, Sizes, make};
-use mt_system::System;
+use mt_system::{Formula, Sizes, System, make};
 use std::alloc::{AllocError, Global};
 
 // A parent's digits in other sizes, with zeros outside its own.

@@ -1,12 +1,11 @@
 //! Sequences cut, and nets of sequences.
 ghost use Rattle.std.specs.Prelude.{◌≡◌, ℕ, ◌+◌, ◌-◌, ◌<◌, ◌≤◌, ◌==◌, cond, ltb, IfOk};
 ghost use Rattle.mt_system.specs.Rows.{Strength, SequenceStrength};
-ghost use Rattle.mt_rules_basic.specs.Digits.{digit_of, unit};
+ghost use Rattle.mt_system.specs.Digits.{digit_of, unit};
 ghost use Rattle.mt_rules_basic.specs.Rules.{IsFewer, IsCut, IsNet};
 
-use crate::making::{Formula, Sizes, make};
 use crate::rows::{Resized, fewer};
-use mt_system::System;
+use mt_system::{Formula, Sizes, System, make};
 use std::alloc::{AllocError, Global};
 
 // A sequence's matrices, and one more whose rows are the unit vectors from the last to the first.

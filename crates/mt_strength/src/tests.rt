@@ -109,10 +109,8 @@ fn small_claims(rt: HostRuntime) -> Result<(), Fail> {
     assert_eq!(rt; claim.form, Form::Ooa);
     assert_eq!(rt; claim.name.bytes(), b"one".as_slice());
     assert_eq!(rt; claim.k, 2);
-    assert_eq!(rt;
-        (claim.system.m(), claim.system.s(), claim.system.depth()),
-        (2, 1, 1)
-    );
+    assert_eq!(rt; (claim.system.s(), claim.system.depth()), (1, 1));
+    assert_eq!(rt; claim.system.digits(), [1u8, 0].as_slice());
 
     for form in [Form::Seq, Form::Net] {
         let digits = Vec::from_slice(alloc, &[1, 0, 0, 1, 1, 0, 0, 1])?;

@@ -5,33 +5,60 @@ use Rattle.mt_cells.specs.declared.cells.Cell.{Cell}
 use Rattle.mt_cells.specs.declared.rules.RuleSet.{RuleSet}
 use Rattle.mt_cells.specs.Cells.{InBounds, number, cells_of}
 use Rattle.mt_cells.specs.Closed.{IsClosed}
-use Rattle.mt_cells.specs.Trees.{Axiom, HasAxiom, axiom_value, Entry, axiom_at, IsValue}
+use Rattle.mt_cells.specs.Trees.{Axiom, HasAxiom, axiom_value, Entry, Tree, Concludes, IsValue}
 use Rattle.mt_cells.specs.Values.{AreValues, sum_to, IsSince}
 use Rattle.mt_cells.proofs.CellLemmas.{number_below}
 use Rattle.mt_cells.proofs.TreeLemmas.{IsValue-closed}
 use Rattle.mt_table.specs.declared.work.Work.{Work}
-use Rattle.mt_table.specs.Works.{value_in, AreAxioms, AllReached, Settles}
+use Rattle.mt_derive.specs.declared.nodes.Node.{Node}
+use Rattle.mt_derive.specs.Axioms.{IsBestAxiom}
+use Rattle.mt_derive.specs.Imports.{entries_of}
+use Rattle.mt_derive.specs.Nodes.{IsTreeOf}
+use Rattle.mt_derive.specs.Places.{IsAt}
+use Rattle.mt_table.specs.Works.{value_in, place_in, AreAxioms, AllShown, Settles}
 use Rattle.mt_table.specs.Fixed.{IsFixed}
+use Rattle.mt_system.specs.Statements.{Statement}
+use Rattle.mt_table.specs.Tables.{IsServed}
+use Rattle.mt_table.proofs.NodeLemmas.{Holds, cell_node, shown_tree, value_within}
+use Rattle.mt_table.proofs.StartLemmas.{axioms_shown}
 
-axioms_reached : (v : Work) (L : List Entry) → AreAxioms v.bounds v.values.items (cells_of v.bounds) → AllReached v L
-axioms_reached v L a c h = let q = a c h (number_below v.bounds c h) in (axiom_at q.from c, ((h, q.has), refl, q.value))
-
-pub fixed : (v w : Work) → AreAxioms v.bounds v.values.items (cells_of v.bounds) → Settles v w → IsFixed w []
+pub fixed : (v w : Work) → AreAxioms v.bounds v.nodes.list v.values.items v.places.items (cells_of v.bounds) → Settles v w → IsFixed w []
 fixed v w a s = record {
-  values = λ c h. IsValue-closed w.bounds w.rules [] (value_in w) closed c (reached c h).0 (reached c h).1;
+  values = λ c h. IsValue-closed w.bounds w.rules [] (value_in w) closed c (reached c h).0 (reached c h).2;
+  shown = shown;
   idle = s.idle;
 }
   where
-    reached : AllReached w []
-    reached = s.reached [] (axioms_reached v [] a)
+    shown : AllShown w []
+    shown = s.shown [] (axioms_shown v.bounds v.rules [] v.nodes.list v.values.items v.places.items (cells_of v.bounds) a)
+
+    reached : (c : Cell) → InBounds w.bounds c → (t : Tree) × IsTreeOf w.nodes.list (place_in w c) t × Concludes w.bounds w.rules [] t c (value_in w c)
+    reached c h = shown_tree w [] (place_in w c) c (value_in w c) shown (cell_node w c h)
 
     held : (x : Axiom) (c : Cell) → InBounds w.bounds c → HasAxiom x c → axiom_value x c ≤ value_in w c
-    held x c h k = let i : InBounds v.bounds c = rw s.bounds at h in rw s.bounds (le_trans ((a c i (number_below v.bounds c i)).greatest x k) (s.values (number v.bounds c)))
+    held x c h k =
+        let i : InBounds v.bounds c = rw s.bounds at h in
+        let y : (node : Node) × IsAt v.nodes.list (place_in v c) node × IsBestAxiom c node × (node.k ≡ value_in v c) = a.cells c i (number_below v.bounds c i) in
+        rw s.bounds (le_trans (rw y.3 at (y.2.greatest x k)) (s.values (number v.bounds c)))
 
     closed : IsClosed w.bounds w.rules [] (value_in w)
     closed = record { axioms = held; imports = λ n h i. absurd (omega arith); done = s.done }
 
 -- ---- answers
+
+-- the table's node of a cell is what it should be
+pub served : (w : Work) (L : List Statement) (c : Cell) → IsFixed w (entries_of L) → InBounds w.bounds c
+    → IsServed (record { bounds = w.bounds; rules = w.rules; list = L; nodes = w.nodes; places = w.places.items }) c (place_in w c)
+served w L c f h =
+    let x : Holds w.nodes.list (place_in w c) c (value_in w c) = cell_node w c h in
+    record {
+      node = x.0;
+      place = x.1;
+      cell = x.2;
+      value = rw x.3 (f.values c h);
+      within = rw x.3 (value_within w c h);
+      concluded = f.shown (place_in w c) x.0 x.1;
+    }
 
 pub value_at : (b : Bounds) (rules : RuleSet) (L : List Entry) (values : List ℕ) (c : Cell) (v : ℕ) → AreValues b rules L (λ n. get_or values n 0) → InBounds b c → v ≡ get_or values (number b c) 0 → IsValue b rules L c v
 value_at b rules L values c v a h e = rw e (a c h)

@@ -1,4 +1,5 @@
+pub mod NodeLemmas
 pub mod WorkLemmas
 pub mod LineLemmas
 pub mod FixedLemmas
-pub mod AxiomLemmas
+pub mod StartLemmas

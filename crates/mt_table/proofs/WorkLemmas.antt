@@ -9,17 +9,19 @@ use Rattle.mt_cells.specs.Cells.{InBounds, number, cells_of}
 use Rattle.mt_cells.specs.Instances.{IsInstance, HasParent, conclusion_of}
 use Rattle.mt_cells.specs.Places.{second_or}
 use Rattle.mt_cells.specs.Closed.{second_of, IsDone}
-use Rattle.mt_cells.specs.Trees.{Entry, Tree, Concludes}
+use Rattle.mt_cells.specs.Trees.{Entry}
 use Rattle.mt_cells.proofs.CellLemmas.{number_below, number_apart}
 use Rattle.mt_cells.proofs.PlaceLemmas.{inside}
-use Rattle.mt_cells.proofs.TreeLemmas.{concluded}
+use Rattle.mt_derive.proofs.ConcludedLemmas.{conclude_push}
 use Rattle.mt_table.specs.declared.work.Work.{Work}
-use Rattle.mt_table.specs.Works.{value_in, AllReached, AllDone, IsFlagged, IsIdle, IsSettled, AllSettled, sum_of, waiting, Grows, IsRaised, IsTaken, IsOver, Settles}
+use Rattle.mt_table.specs.Shapes.{sum_of}
+use Rattle.mt_table.specs.Works.{value_in, AllShown, AllDone, IsFlagged, IsIdle, IsSettled, AllSettled, waiting, Grows, node_by, IsRaised, IsTaken, IsOver, Settles}
+use Rattle.mt_table.proofs.NodeLemmas.{node_concludes}
 
 -- ---- growth
 
 pub grows_refl : (v : Work) → Grows v v
-grows_refl v = record { bounds = refl; rules = refl; values = λ n. omega arith; flags = λ n h. h; changed = λ n. inl refl; rise = omega arith; reached = λ L h. h }
+grows_refl v = record { bounds = refl; rules = refl; values = λ n. omega arith; flags = λ n h. h; changed = λ n. inl refl; rise = omega arith; shown = λ L h. h }
 
 pub grows_trans : (u v w : Work) → Grows u v → Grows v w → Grows u w
 grows_trans u v w a b = record {
@@ -35,7 +37,7 @@ grows_trans u v w a b = record {
       (λ (e : get_or w.flags.items n false ≡ true). inr e)
       (b.changed n);
   rise = omega (arith, a.rise, b.rise);
-  reached = λ L h. b.reached L (a.reached L h);
+  shown = λ L h. b.shown L (a.shown L h);
 }
 
 -- a settled instance stays settled
@@ -58,70 +60,59 @@ values_low w c h = rw w.shaped.0 (number_below w.bounds c h)
 flags_low : (w : Work) (c : Cell) → InBounds w.bounds c → number w.bounds c < length w.flags.items
 flags_low w c h = rw w.shaped.1 (number_below w.bounds c h)
 
-raised_value : (v w : Work) (c : Cell) (k : ℕ) → InBounds v.bounds c → IsRaised v w c k → get_or w.values.items (number v.bounds c) 0 ≡ k
-raised_value v w c k h r = rw r.values (get_or-set_same v.values.items (number v.bounds c) k 0 (values_low v c h))
+raised_value : (v w : Work) (i : Instance) (k : ℕ) → InBounds v.bounds i.target → IsRaised v w i k → get_or w.values.items (number v.bounds i.target) 0 ≡ k
+raised_value v w i k h r = rw r.values (get_or-set_same v.values.items (number v.bounds i.target) k 0 (values_low v i.target h))
 
-other_value : (v w : Work) (c : Cell) (k n : ℕ) → IsRaised v w c k → n ≢ number v.bounds c → get_or w.values.items n 0 ≡ get_or v.values.items n 0
-other_value v w c k n r ne = rw r.values (get_or-set_other v.values.items (number v.bounds c) n k 0 ne)
+other_value : (v w : Work) (i : Instance) (k n : ℕ) → IsRaised v w i k → n ≢ number v.bounds i.target → get_or w.values.items n 0 ≡ get_or v.values.items n 0
+other_value v w i k n r ne = rw r.values (get_or-set_other v.values.items (number v.bounds i.target) n k 0 ne)
 
-raised_flag : (v w : Work) (c : Cell) (k : ℕ) → InBounds v.bounds c → IsRaised v w c k → get_or w.flags.items (number v.bounds c) false ≡ true
-raised_flag v w c k h r = rw r.flags (get_or-set_same v.flags.items (number v.bounds c) true false (flags_low v c h))
+raised_flag : (v w : Work) (i : Instance) (k : ℕ) → InBounds v.bounds i.target → IsRaised v w i k → get_or w.flags.items (number v.bounds i.target) false ≡ true
+raised_flag v w i k h r = rw r.flags (get_or-set_same v.flags.items (number v.bounds i.target) true false (flags_low v i.target h))
 
-other_flag : (v w : Work) (c : Cell) (k n : ℕ) → IsRaised v w c k → n ≢ number v.bounds c → get_or w.flags.items n false ≡ get_or v.flags.items n false
-other_flag v w c k n r ne = rw r.flags (get_or-set_other v.flags.items (number v.bounds c) n true false ne)
+other_flag : (v w : Work) (i : Instance) (k n : ℕ) → IsRaised v w i k → n ≢ number v.bounds i.target → get_or w.flags.items n false ≡ get_or v.flags.items n false
+other_flag v w i k n r ne = rw r.flags (get_or-set_other v.flags.items (number v.bounds i.target) n true false ne)
 
-raised_rise : (v w : Work) (c : Cell) (k : ℕ) → InBounds v.bounds c → value_in v c < k → IsRaised v w c k → sum_of v.values.items + waiting w.flags.items ≤ sum_of w.values.items + waiting v.flags.items
-raised_rise v w c k h l r =
-    let n : ℕ = number v.bounds c in
-    let p : sum_of (set v.values.items n k) + get_or v.values.items n 0 ≡ sum_of v.values.items + k = sum_by-set (λ v. v) v.values.items n k 0 (values_low v c h) in
-    let q : waiting (set v.flags.items n true) + cond (get_or v.flags.items n false) 1 0 ≡ waiting v.flags.items + 1 = sum_by-set (λ f. cond f 1 0) v.flags.items n true false (flags_low v c h) in
+raised_rise : (v w : Work) (i : Instance) (k : ℕ) → InBounds v.bounds i.target → value_in v i.target < k → IsRaised v w i k → sum_of v.values.items + waiting w.flags.items ≤ sum_of w.values.items + waiting v.flags.items
+raised_rise v w i k h l r =
+    let n : ℕ = number v.bounds i.target in
+    let p : sum_of (set v.values.items n k) + get_or v.values.items n 0 ≡ sum_of v.values.items + k = sum_by-set (λ v. v) v.values.items n k 0 (values_low v i.target h) in
+    let q : waiting (set v.flags.items n true) + cond (get_or v.flags.items n false) 1 0 ≡ waiting v.flags.items + 1 = sum_by-set (λ f. cond f 1 0) v.flags.items n true false (flags_low v i.target h) in
     rw (r.values, r.flags) (omega arith)
 
-raised_reached : (v w : Work) (i : Instance) (k : ℕ) → IsInstance v.bounds v.rules i → k ≡ conclusion_of i (value_in v i.first) (value_in v (second_of i)) → 0 < k → IsRaised v w i.target k → (L : List Entry) → AllReached v L → AllReached w L
-raised_reached v w i k h ek l r L old c x = rw (r.bounds, r.rules) (⊎_elim
-    (λ (e : number v.bounds c ≡ number v.bounds i.target). new (number_apart v.bounds c i.target y (inside v.bounds v.rules i h).0 e))
-    (λ (ne : number v.bounds c ≢ number v.bounds i.target). ((old c y).0, rw (other_value v w i.target k (number v.bounds c) r ne) (old c y).1))
-    (cases_eq (number v.bounds c) (number v.bounds i.target)))
-  where
-    y : InBounds v.bounds c
-    y = rw r.bounds at x
+-- the new node concludes what the instance does
+raised_shown : (v w : Work) (i : Instance) (k : ℕ) → IsInstance v.bounds v.rules i → k ≡ conclusion_of i (value_in v i.first) (value_in v (second_of i)) → 0 < k → IsRaised v w i k → (L : List Entry) → AllShown v L → AllShown w L
+raised_shown v w i k h e l r L all = rw (r.bounds, r.rules, r.nodes) (conclude_push v.bounds v.rules L v.nodes.list (node_by v i k) all (node_concludes v i k h e l L all))
 
-    tree : (t : Tree) × Concludes v.bounds v.rules L t i.target (conclusion_of i (value_in v i.first) (value_in v (second_of i)))
-    tree = concluded v.bounds v.rules L i h (old i.first h.first).0 (old (second_of i) (inside v.bounds v.rules i h).1).0 (value_in v i.first) (value_in v (second_of i)) (old i.first h.first).1 (old (second_of i) (inside v.bounds v.rules i h).1).1 (rw (← ek) l)
-
-    new : c ≡ i.target → (t : Tree) × Concludes v.bounds v.rules L t c (get_or w.values.items (number v.bounds c) 0)
-    new e = rw (e, raised_value v w i.target k (inside v.bounds v.rules i h).0 r, ek) tree
-
-pub grows_raised : (v w : Work) (i : Instance) (j g k : ℕ) → IsInstance v.bounds v.rules i → j ≡ value_in v i.first → g ≡ value_in v (second_of i) → k ≡ conclusion_of i j g → value_in v i.target < k → IsRaised v w i.target k → Grows v w
+pub grows_raised : (v w : Work) (i : Instance) (j g k : ℕ) → IsInstance v.bounds v.rules i → j ≡ value_in v i.first → g ≡ value_in v (second_of i) → k ≡ conclusion_of i j g → value_in v i.target < k → IsRaised v w i k → Grows v w
 grows_raised v w i j g k h ej eg ek l r = record {
   bounds = r.bounds;
   rules = r.rules;
   values = λ n. ⊎_elim
-      (λ (e : n ≡ number v.bounds i.target). rw (e, raised_value v w i.target k t r) (omega arith))
-      (λ (ne : n ≢ number v.bounds i.target). rw (other_value v w i.target k n r ne) (omega arith))
+      (λ (e : n ≡ number v.bounds i.target). rw (e, raised_value v w i k t r) (omega arith))
+      (λ (ne : n ≢ number v.bounds i.target). rw (other_value v w i k n r ne) (omega arith))
       (cases_eq n (number v.bounds i.target));
   flags = λ n f. ⊎_elim
-      (λ (e : n ≡ number v.bounds i.target). rw e (raised_flag v w i.target k t r))
-      (λ (ne : n ≢ number v.bounds i.target). other_flag v w i.target k n r ne ∙ f)
+      (λ (e : n ≡ number v.bounds i.target). rw e (raised_flag v w i k t r))
+      (λ (ne : n ≢ number v.bounds i.target). other_flag v w i k n r ne ∙ f)
       (cases_eq n (number v.bounds i.target));
   changed = λ n. ⊎_elim
-      (λ (e : n ≡ number v.bounds i.target). inr (rw e (raised_flag v w i.target k t r)))
-      (λ (ne : n ≢ number v.bounds i.target). inl (other_value v w i.target k n r ne))
+      (λ (e : n ≡ number v.bounds i.target). inr (rw e (raised_flag v w i k t r)))
+      (λ (ne : n ≢ number v.bounds i.target). inl (other_value v w i k n r ne))
       (cases_eq n (number v.bounds i.target));
-  rise = raised_rise v w i.target k t l r;
-  reached = raised_reached v w i k h (rw (ej, eg) at ek) (omega arith) r;
+  rise = raised_rise v w i k t l r;
+  shown = raised_shown v w i k h (rw (ej, eg) at ek) (omega arith) r;
 }
   where
     t : InBounds v.bounds i.target
     t = (inside v.bounds v.rules i h).0
 
 -- the instance that raised its target is settled, also where the target is a parent
-pub settled_raised : (v w : Work) (i : Instance) (j g k : ℕ) → IsInstance v.bounds v.rules i → j ≡ value_in v i.first → g ≡ value_in v (second_of i) → k ≡ conclusion_of i j g → IsRaised v w i.target k → IsSettled w i
+pub settled_raised : (v w : Work) (i : Instance) (j g k : ℕ) → IsInstance v.bounds v.rules i → j ≡ value_in v i.first → g ≡ value_in v (second_of i) → k ≡ conclusion_of i j g → IsRaised v w i k → IsSettled w i
 settled_raised v w i j g k h ej eg ek r = rw r.bounds (⊎_elim
-    (λ (e : number v.bounds i.first ≡ number v.bounds i.target). inr (inl (rw e (raised_flag v w i.target k t r))))
+    (λ (e : number v.bounds i.first ≡ number v.bounds i.target). inr (inl (rw e (raised_flag v w i k t r))))
     (λ (ne : number v.bounds i.first ≢ number v.bounds i.target). ⊎_elim
-    (λ (e : number v.bounds (second_of i) ≡ number v.bounds i.target). inr (inr (rw e (raised_flag v w i.target k t r))))
-    (λ (me : number v.bounds (second_of i) ≢ number v.bounds i.target). inl (rw (other_value v w i.target k (number v.bounds i.first) r ne, other_value v w i.target k (number v.bounds (second_of i)) r me, raised_value v w i.target k t r, ← ej, ← eg, ← ek) (omega arith)))
+    (λ (e : number v.bounds (second_of i) ≡ number v.bounds i.target). inr (inr (rw e (raised_flag v w i k t r))))
+    (λ (me : number v.bounds (second_of i) ≢ number v.bounds i.target). inl (rw (other_value v w i k (number v.bounds i.first) r ne, other_value v w i k (number v.bounds (second_of i)) r me, raised_value v w i k t r, ← ej, ← eg, ← ek) (omega arith)))
     (cases_eq (number v.bounds (second_of i)) (number v.bounds i.target)))
     (cases_eq (number v.bounds i.first) (number v.bounds i.target)))
   where
@@ -198,7 +189,7 @@ measure_falls v u w n t g =
     let b : sum_of u.values.items ≡ sum_of v.values.items = ap sum_of t.values in
     let d : waiting u.flags.items ≡ waiting (set v.flags.items n false) = ap waiting t.flags in
     let q : waiting (set v.flags.items n false) + 1 ≡ waiting v.flags.items = taken_waiting v.flags.items n (rw v.shaped.1 t.below) t.was in
-    let r : sum_of w.values.items ≤ 16 * length w.values.items = sum_high w.values.items w.shaped.2 in
+    let r : sum_of w.values.items ≤ 16 * length w.values.items = sum_high w.values.items w.shaped.3 in
     let s : length w.values.items ≡ cells_of w.bounds = w.shaped.0 in
     let e : cells_of w.bounds ≡ cells_of v.bounds = ap cells_of (g.bounds ∙ t.bounds) in
     omega arith
@@ -208,18 +199,18 @@ pub record Rises (v w : Work) : Type 0 where
   pub bounds : w.bounds ≡ v.bounds
   pub rules : w.rules ≡ v.rules
   pub values : (n : ℕ) → get_or v.values.items n 0 ≤ get_or w.values.items n 0
-  pub reached : (L : List Entry) → AllReached v L → AllReached w L
+  pub shown : (L : List Entry) → AllShown v L → AllShown w L
 
 pub rises_step : (o v u w : Work) (n : ℕ) → Rises o v → IsTaken v u n → Grows u w → Rises o w
 rises_step o v u w n r t g = record {
   bounds = g.bounds ∙ t.bounds ∙ r.bounds;
   rules = g.rules ∙ t.rules ∙ r.rules;
   values = λ k. le_trans (r.values k) (rw t.values at (g.values k));
-  reached = λ L h. g.reached L (rw (t.bounds, t.rules, t.values) (r.reached L h));
+  shown = λ L h. g.shown L (rw (t.bounds, t.rules, t.nodes) (r.shown L h));
 }
 
 pub rises_refl : (v : Work) → Rises v v
-rises_refl v = record { bounds = refl; rules = refl; values = λ n. omega arith; reached = λ L h. h }
+rises_refl v = record { bounds = refl; rules = refl; values = λ n. omega arith; shown = λ L h. h }
 
 -- nothing waits any more
 pub settles : (o v w : Work) → AllSettled v → Rises o v → IsOver v w → Settles o w
@@ -227,7 +218,7 @@ settles o v w all r h = record {
   bounds = h.bounds ∙ r.bounds;
   rules = h.rules ∙ r.rules;
   values = λ n. rw h.values (r.values n);
-  reached = λ L k. rw (h.bounds, h.rules, h.values) (r.reached L k);
+  shown = λ L k. rw (h.bounds, h.rules, h.nodes) (r.shown L k);
   done = done_at_end w (rw (h.bounds, h.rules, h.values, h.flags) all) h.idle;
   idle = h.idle;
 }

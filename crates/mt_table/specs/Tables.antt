@@ -1,12 +1,34 @@
 -- What a table is to its callers.
-use Rattle.std.specs.Prelude.{ℕ, List}
+use Rattle.std.specs.Prelude.{◌≡◌, ℕ, ◌≤◌, List, get_or}
+use Rattle.mt_system.specs.Statements.{Statement}
 use Rattle.mt_cells.specs.declared.bounds.Bounds.{Bounds}
+use Rattle.mt_cells.specs.declared.cells.Cell.{Cell}
 use Rattle.mt_cells.specs.declared.rules.RuleSet.{RuleSet}
-use Rattle.mt_cells.specs.Trees.{Entry}
+use Rattle.mt_cells.specs.Cells.{columns_of, number}
+use Rattle.mt_cells.specs.Trees.{IsValue}
+use Rattle.mt_derive.specs.declared.nodes.Node.{Node}
+use Rattle.mt_derive.specs.Concluded.{IsConcluded}
+use Rattle.mt_derive.specs.Imports.{entries_of}
+use Rattle.mt_derive.specs.Nodes.{NodeList}
+use Rattle.mt_derive.specs.Places.{IsAt}
 
--- a table over a list of imports: the values of its cells, by number
+-- a table over a list of imports: the nodes of its derivations, and the number of a node for each cell, by the cell's number
 pub record Contents : Type 0 where
   pub bounds : Bounds
   pub rules : RuleSet
-  pub list : List Entry
-  pub values : List ℕ
+  pub list : List Statement
+  pub nodes : NodeList
+  pub places : List ℕ
+
+-- the node that the table names for a cell
+abbrev pub place_of : Contents → Cell → ℕ
+place_of t c = get_or t.places (number t.bounds c) 0
+
+-- node n shows the cell with its greatest value, and unfolds to a tree that concludes it
+pub record IsServed (t : Contents) (c : Cell) (n : ℕ) : Type 0 where
+  pub node : Node
+  pub place : IsAt t.nodes.list n node
+  pub cell : node.cell ≡ c
+  pub value : IsValue t.bounds t.rules (entries_of t.list) c node.k
+  pub within : node.k ≤ columns_of c
+  pub concluded : IsConcluded t.bounds t.rules (entries_of t.list) t.nodes.list n node

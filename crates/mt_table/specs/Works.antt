@@ -1,5 +1,5 @@
 -- What the rules do to the values of cells.
-use Rattle.std.specs.Prelude.{◌≡◌, ℕ, ◌+◌, ◌<◌, ◌≤◌, ◌⊎◌, Bool, true, false, cond, List, get_or, slice_set}
+use Rattle.std.specs.Prelude.{◌≡◌, ℕ, ◌+◌, ◌<◌, ◌≤◌, ◌⊎◌, Bool, true, false, cond, Option, None, Some, List, [], ◌∷◌, ◌++◌, length, get_or, slice_set}
 use Rattle.std.specs.List.{sum_by}
 use Rattle.mt_cells.specs.declared.bounds.Bounds.{Bounds}
 use Rattle.mt_cells.specs.declared.cells.Cell.{Cell}
@@ -9,15 +9,16 @@ use Rattle.mt_cells.specs.declared.lines.Line.{Line}
 use Rattle.mt_cells.specs.Instances.{IsInstance, HasParent}
 use Rattle.mt_cells.specs.Places.{IsPlace, IsRightLine, instance_at}
 use Rattle.mt_cells.specs.Closed.{second_of, IsDone}
-use Rattle.mt_cells.specs.Trees.{Axiom, HasAxiom, axiom_value, Entry, Tree, Concludes}
+use Rattle.mt_cells.specs.Trees.{Entry}
+use Rattle.mt_derive.specs.declared.nodes.Made.{Made}
+use Rattle.mt_derive.specs.declared.nodes.Made.TheVariants as made
+use Rattle.mt_cells.specs.declared.rules.Rule.{Rule}
+use Rattle.mt_derive.specs.declared.nodes.Node.{Node}
+use Rattle.mt_derive.specs.Axioms.{IsBestAxiom}
+use Rattle.mt_derive.specs.Concluded.{AllConclude}
+use Rattle.mt_derive.specs.Places.{IsAt}
 use Rattle.mt_table.specs.declared.work.Work.{Work}
-
--- the greatest strength that an axiom says of the cell
-pub record IsAxiomValue (c : Cell) (v : ℕ) : Type 0 where
-  pub from : Axiom
-  pub has : HasAxiom from c
-  pub value : axiom_value from c ≡ v
-  pub greatest : (x : Axiom) → HasAxiom x c → axiom_value x c ≤ v
+use Rattle.mt_table.specs.Shapes.{sum_of}
 
 -- ---- the values
 
@@ -28,13 +29,20 @@ values_of w n = get_or w.values.items n 0
 abbrev pub value_in : Work → Cell → ℕ
 value_in w c = get_or w.values.items (number w.bounds c) 0
 
--- the cells before number n have the values of axioms
-abbrev pub AreAxioms : Bounds → List ℕ → ℕ → Type 0
-AreAxioms b values n = (c : Cell) → InBounds b c → number b c < n → IsAxiomValue c (get_or values (number b c) 0)
+-- the number of the cell's node
+abbrev pub place_in : Work → Cell → ℕ
+place_in w c = get_or w.places.items (number w.bounds c) 0
 
--- a tree concludes the value of each cell
-abbrev pub AllReached : Work → List Entry → Type 0
-AllReached w L = (c : Cell) → InBounds w.bounds c → (t : Tree) × Concludes w.bounds w.rules L t c (value_in w c)
+-- the n nodes are those of the cells before number n, each with the best axiom of its cell
+pub record AreAxioms (b : Bounds) (nodes : List Node) (values places : List ℕ) (n : ℕ) : Type 0 where
+  pub count : length nodes ≡ n
+  pub best : (j : ℕ) (node : Node) → IsAt nodes j node → (c : Cell) × InBounds b c × IsBestAxiom c node
+  pub cells : (c : Cell) → InBounds b c → number b c < n
+      → (node : Node) × IsAt nodes (get_or places (number b c) 0) node × IsBestAxiom c node × (node.k ≡ get_or values (number b c) 0)
+
+-- each node unfolds to a tree that concludes what the node shows
+abbrev pub AllShown : Work → List Entry → Type 0
+AllShown w L = AllConclude w.bounds w.rules L w.nodes.list
 
 abbrev pub AllDone : Work → Type 0
 AllDone w = (i : Instance) → IsInstance w.bounds w.rules i → IsDone (value_in w) i
@@ -69,9 +77,6 @@ ParentSettled v c w = (i : Instance) → IsInstance v.bounds v.rules i → HasPa
 
 -- ---- steps
 
-abbrev pub sum_of : List ℕ → ℕ
-sum_of values = sum_by (λ v. v) values
-
 abbrev pub waiting : List Bool → ℕ
 waiting flags = sum_by (λ f. cond f 1 0) flags
 
@@ -83,20 +88,35 @@ pub record Grows (v w : Work) : Type 0 where
   pub flags : (n : ℕ) → get_or v.flags.items n false ≡ true → get_or w.flags.items n false ≡ true
   pub changed : (n : ℕ) → (get_or w.values.items n 0 ≡ get_or v.values.items n 0) ⊎ (get_or w.flags.items n false ≡ true)
   pub rise : sum_of v.values.items + waiting w.flags.items ≤ sum_of w.values.items + waiting v.flags.items
-  pub reached : (L : List Entry) → AllReached v L → AllReached w L
+  pub shown : (L : List Entry) → AllShown v L → AllShown w L
 
--- the value of the cell is k now, and the cell waits
-pub record IsRaised (v w : Work) (c : Cell) (k : ℕ) : Type 0 where
+-- the rule with its parents' numbers
+abbrev pub made_by : Rule → Option Cell → ℕ → ℕ → Made
+made_by r None p q = made.One r p
+made_by r (Some second) p q = made.Two r p q
+
+-- the rule with the nodes of the instance's parents
+abbrev pub made_of : Work → Instance → Made
+made_of v i = made_by i.rule i.second (place_in v i.first) (place_in v (second_of i))
+
+-- the node of what the instance concludes from the values of its parents
+abbrev pub node_by : Work → Instance → ℕ → Node
+node_by v i k = record { made = made_of v i; cell = i.target; k = k }
+
+-- the value of the instance's target is k now, by one more node, and the target waits
+pub record IsRaised (v w : Work) (i : Instance) (k : ℕ) : Type 0 where
   pub bounds : w.bounds ≡ v.bounds
   pub rules : w.rules ≡ v.rules
-  pub values : w.values.items ≡ slice_set v.values.items (number v.bounds c) k
-  pub flags : w.flags.items ≡ slice_set v.flags.items (number v.bounds c) true
+  pub values : w.values.items ≡ slice_set v.values.items (number v.bounds i.target) k
+  pub flags : w.flags.items ≡ slice_set v.flags.items (number v.bounds i.target) true
+  pub nodes : w.nodes.list ≡ v.nodes.list ++ node_by v i k ∷ []
 
 -- the cell of number n waits no more
 pub record IsTaken (v w : Work) (n : ℕ) : Type 0 where
   pub bounds : w.bounds ≡ v.bounds
   pub rules : w.rules ≡ v.rules
   pub values : w.values.items ≡ v.values.items
+  pub nodes : w.nodes ≡ v.nodes
   pub below : n < cells_of v.bounds
   pub was : get_or v.flags.items n false ≡ true
   pub flags : w.flags.items ≡ slice_set v.flags.items n false
@@ -106,6 +126,7 @@ pub record IsOver (v w : Work) : Type 0 where
   pub bounds : w.bounds ≡ v.bounds
   pub rules : w.rules ≡ v.rules
   pub values : w.values.items ≡ v.values.items
+  pub nodes : w.nodes ≡ v.nodes
   pub flags : w.flags.items ≡ v.flags.items
   pub idle : IsIdle w
 
@@ -114,6 +135,6 @@ pub record Settles (v w : Work) : Type 0 where
   pub bounds : w.bounds ≡ v.bounds
   pub rules : w.rules ≡ v.rules
   pub values : (n : ℕ) → get_or v.values.items n 0 ≤ get_or w.values.items n 0
-  pub reached : (L : List Entry) → AllReached v L → AllReached w L
+  pub shown : (L : List Entry) → AllShown v L → AllShown w L
   pub done : AllDone w
   pub idle : IsIdle w

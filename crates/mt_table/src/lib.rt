@@ -1,7 +1,6 @@
-//! The values of all cells of a table.
+//! The values of all cells of a table, and the derivations that conclude them.
 #![tactic(auto)]
 
-mod axioms;
 mod table;
 #[cfg(test)]
 mod tests;

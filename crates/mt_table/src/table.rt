@@ -1,19 +1,21 @@
-//! The values of all cells over the axioms.
+//! The values of all cells over the axioms and the imports.
 use crate::work::Work;
 use mt_cells::{Bounds, Cell, RuleSet, Steps};
+use mt_derive::{Imports, Nodes};
 use std::alloc::{AllocError, Global};
 use std::marker::Model;
 use std::sync::ledger::Ledger;
 
 /// The greatest values that derivations conclude for the cells of its bounds, by the configured rules
-/// from the axioms and the imports.
+/// from the axioms and the imports, and a derivation of each.
 #[derive(Drop)]
 pub struct Table {
     work: Work,
+    imports: Imports,
 }
 
 impl Model for Table {
-    ghost use Rattle.std.specs.Prelude.{[]};
+    ghost use Rattle.std.specs.Prelude.{◌≡◌, []};
     ghost use Rattle.mt_table.specs.Tables.{Contents};
 
     ghost Value = { Contents };
@@ -23,20 +25,28 @@ impl Model for Table {
     ghost view = { λ t. record {
       bounds = t.work.bounds;
       rules = t.work.rules;
-      list = [];
-      values = t.work.values.items;
+      list = t.imports.list;
+      nodes = t.work.nodes;
+      places = t.work.places.items;
     } };
 
-    ghost invariant = { λ t. IsFixed t.work [] };
+    ghost use Rattle.mt_derive.specs.Imports.{entries_of};
+
+    ghost invariant = { λ t. IsFixed t.work (entries_of t.imports.list)
+        × (t.imports.bounds ≡ t.work.bounds) × (t.imports.list ≡ []) };
 }
 
 impl Table {
-    ghost use Rattle.std.specs.Prelude.{◌≡◌, ℕ, [], length, IfOk};
+    ghost use Rattle.std.specs.Prelude.{◌≡◌, ◌<◌, ℕ, [], length, IfOk};
     ghost use Rattle.mt_cells.specs.Cells.{InBounds};
     ghost use Rattle.mt_cells.specs.Trees.{IsValue};
     ghost use Rattle.mt_cells.specs.Values.{IsScore, IsSince};
+    ghost use Rattle.mt_derive.specs.Concluded.{AllConclude};
+    ghost use Rattle.mt_derive.specs.Imports.{entries_of};
+    ghost use Rattle.mt_table.specs.Tables.{place_of, IsServed};
 
-    /// The table without imports. It takes all its room at once, or refuses with `AllocError`.
+    /// The table without imports. It takes all its room at once, for 1,024 imports and every node
+    /// that there can ever be, or refuses with `AllocError`.
     pub fn new<L: Ledger>(
         alloc: Global,
         bounds: Bounds,
@@ -47,9 +57,10 @@ impl Table {
         ensures rules { IfOk result (λ t. t.rules ≡ rules) }
         ensures list { IfOk result (λ t. t.list ≡ []) }
     {
+        let imports = Imports::with_room(alloc, bounds)?;
         let mut work = Work::new(alloc, bounds, rules)?;
         work.settle(steps);
-        Ok(Table { work })
+        Ok(Table { work, imports })
     }
 
     /// The bounds of the table.
@@ -59,10 +70,37 @@ impl Table {
         self.work.bounds
     }
 
+    /// The accepted imports.
+    pub fn imports(&self) -> &Imports
+        ensures bounds { result.now.bounds ≡ self.now.bounds }
+        ensures list { result.now.list ≡ self.now.list }
+    {
+        &self.imports
+    }
+
+    /// The nodes of the derivations.
+    pub fn nodes(&self) -> &Nodes
+        ensures value { result.now ≡ self.now.nodes }
+        ensures concluded { AllConclude self.now.bounds self.now.rules (entries_of self.now.list)
+            self.now.nodes.list }
+    {
+        &self.work.nodes
+    }
+
+    /// The number of a node that concludes the value of the cell.
+    pub fn node_of(&self, cell: Cell) -> u32
+        requires { InBounds self.now.bounds cell }
+        ensures place { result ≡ place_of self.now cell }
+        ensures below { result < length self.now.nodes.list }
+        ensures served { IsServed self.now cell result }
+    {
+        self.work.place(cell)
+    }
+
     /// The greatest strength, or `m - t` for a sequence, that a derivation concludes for the cell.
     pub fn value(&self, cell: Cell) -> u8
         requires { InBounds self.now.bounds cell }
-        ensures { IsValue self.now.bounds self.now.rules self.now.list cell result }
+        ensures { IsValue self.now.bounds self.now.rules (entries_of self.now.list) cell result }
     {
         self.work.value(cell)
     }
@@ -70,7 +108,7 @@ impl Table {
     /// The last import at which the value of the cell changed, counted from 1, or 0.
     pub fn since(&self, cell: Cell) -> u32
         requires { InBounds self.now.bounds cell }
-        ensures { IsSince self.now.bounds self.now.rules self.now.list cell result }
+        ensures { IsSince self.now.bounds self.now.rules (entries_of self.now.list) cell result }
     {
         let _ = &self.work;
         let _ = cell;
@@ -79,7 +117,7 @@ impl Table {
 
     /// The sum of the values of all cells.
     pub fn score(&self) -> u64
-        ensures { IsScore self.now.bounds self.now.rules self.now.list result }
+        ensures { IsScore self.now.bounds self.now.rules (entries_of self.now.list) result }
     {
         self.work.sum()
     }
@@ -88,7 +126,6 @@ impl Table {
     pub fn version(&self) -> u32
         ensures { result ≡ length self.now.list }
     {
-        let _ = &self.work;
-        0
+        self.imports.len()
     }
 }

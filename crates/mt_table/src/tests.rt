@@ -2,7 +2,8 @@
 ghost use Rattle.std.specs.Prelude.{◌≡◌, ◌<◌, IfOk};
 
 use super::*;
-use mt_cells::{Bounds, Cell, RuleSet, Steps};
+use mt_cells::{Bounds, Cell, Rule, RuleSet, Steps};
+use mt_derive::Made;
 use mt_linear::Order;
 use std::alloc::{AllocError, Global};
 use std::marker::Brand;
@@ -40,6 +41,15 @@ fn greatest_values(rt: HostRuntime) -> Result<(), Fail> {
     assert_eq!(rt; table.value(array(3, 1, 2)), 3);
     assert_eq!(rt; table.value(array(3, 3, 1)), 3);
     assert_eq!(rt; table.value(array(3, 3, 3)), 1);
+    // a (u,u+v) system
+    assert_eq!(rt; table.value(array(4, 8, 1)), 3);
+    Ok(())
+}
+
+#[test]
+fn values_of_sequences(rt: HostRuntime) -> Result<(), Fail> {
+    let bounds = Bounds::new(4, 8).ok_or("none")?;
+    let table = table_of::<Brand>(rt.alloc(), bounds, Blank::new(1))?;
     let cell = Cell::Seq {
         order: Order::Q2,
         m: 3,
@@ -49,8 +59,28 @@ fn greatest_values(rt: HostRuntime) -> Result<(), Fail> {
     assert_eq!(rt; table.since(cell), 0);
     assert_eq!(rt; table.version(), 0);
     assert_eq!(rt; table.bounds(), bounds);
+    assert_eq!(rt; table.imports().len(), 0);
+    Ok(())
+}
+
+#[test]
+fn least_table(rt: HostRuntime) -> Result<(), Fail> {
     let bounds = Bounds::new(1, 1).ok_or("none")?;
     let table = table_of::<Brand>(rt.alloc(), bounds, Blank::new(1))?;
     assert_eq!(rt; table.score(), 7);
+    Ok(())
+}
+
+#[test]
+fn nodes_of_values(rt: HostRuntime) -> Result<(), Fail> {
+    let bounds = Bounds::new(4, 8).ok_or("none")?;
+    let table = table_of::<Brand>(rt.alloc(), bounds, Blank::new(1))?;
+    let nodes = table.nodes();
+    let parity = table.node_of(array(3, 4, 1));
+    assert_eq!(rt; nodes.get(parity).made, Made::Parity);
+    let fewer = nodes.get(table.node_of(array(3, 3, 1)));
+    assert_eq!(rt; fewer.made, Made::One(Rule::Fewer, parity));
+    assert_eq!(rt; fewer.cell, array(3, 3, 1));
+    assert_eq!(rt; fewer.k, 3);
     Ok(())
 }

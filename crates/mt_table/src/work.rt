@@ -1,50 +1,78 @@
-//! Values of cells, and the cells whose value rose.
-ghost use Rattle.mt_table.specs.Shapes.{IsShaped, NoneBefore};
+//! Values of cells with their derivations, and the cells whose value rose.
+ghost use Rattle.std.specs.Prelude.{◌≡◌, ℕ, ◌+◌, List};
+ghost use Rattle.mt_cells.specs.Cells.{cells_of};
+ghost use Rattle.mt_table.specs.Shapes.{IsShaped, NoneBefore, ArePlaced, ArePlaced-prop, HasRoom, AreTops, sum_of};
 
-use crate::axioms::axiom_value;
-use mt_cells::{Bounds, Cell, Instance, Line, RuleSet, Steps, conclude, lines_of_parent};
+use mt_cells::{Bounds, Cell, Instance, Line, RuleSet, Stage, Steps, conclude, lines_of_parent};
+use mt_derive::{Made, Node, Nodes, axiom_node};
 use std::alloc::{AllocError, Global};
 use std::sync::ledger::Ledger;
 
-// Values and flags by the numbers of cells. A flag says that the cell waits to be tried as a parent;
-// there is none before `from`.
+// Values, numbers of nodes and flags by the numbers of cells. A cell's node concludes its value. A
+// flag says that the cell waits to be tried as a parent; there is none before `from`.
 #[derive(Drop)]
 pub(crate) struct Work {
     pub(crate) bounds: Bounds,
     pub(crate) rules: RuleSet,
     pub(crate) values: Vec<u8>,
+    pub(crate) places: Vec<u32>,
+    pub(crate) nodes: Nodes,
     flags: Vec<bool>,
     from: usize,
-    ghost shaped: { IsShaped bounds values.items flags.items },
+    ghost shaped: { IsShaped bounds values.items flags.items places.items },
     ghost before: { NoneBefore flags.items from },
+    ghost placed: { ArePlaced bounds nodes.list places.items values.items } by { ArePlaced-prop bounds nodes.list places.items values.items },
+    ghost roomy: { ∥ HasRoom bounds nodes values.items ∥₁ },
+}
+
+// How many nodes a table may ever have: one for each cell, and one for each rise of its value up to
+// its columns.
+fn room_of(bounds: Bounds) -> u32
+    ensures { (tops : List ℕ) × AreTops bounds (cells_of bounds) tops
+        × (result ≡ cells_of bounds + sum_of tops) }
+{
+    let mut room = 0;
+    for n in 0..bounds.cells() {
+        room += Cell::at(bounds, n).columns() as u32 + 1;
+    }
+    room
 }
 
 impl Work {
-    ghost use Rattle.std.specs.Prelude.{◌≡◌, ◌≤◌, IfOk, IfSome, IfNone};
-    ghost use Rattle.mt_cells.specs.Cells.{InBounds, cells_of};
-    ghost use Rattle.mt_cells.specs.Instances.{IsInstance};
+    ghost use Rattle.std.specs.Prelude.{◌<◌, ◌≤◌, IfOk, IfSome, IfNone};
+    ghost use Rattle.mt_cells.specs.Cells.{InBounds, columns_of};
+    ghost use Rattle.mt_cells.specs.Closed.{second_of};
+    ghost use Rattle.mt_cells.specs.Instances.{IsInstance, conclusion_of};
     ghost use Rattle.mt_cells.specs.Values.{sum_to};
-    ghost use Rattle.mt_table.specs.Works.{values_of, value_in, AreAxioms, AllSettled, IsSettled, IsLineOf, LineSettled};
+    ghost use Rattle.mt_table.specs.Works.{values_of, value_in, place_in, made_of, AreAxioms, AllSettled, IsSettled, IsLineOf, LineSettled};
     ghost use Rattle.mt_table.specs.Works.{ParentSettled, Grows, IsRaised, IsTaken, IsOver, Settles};
 
     // The values of the axioms. All cells wait.
     pub(crate) fn new(alloc: Global, bounds: Bounds, rules: RuleSet) -> Result<Work, AllocError>
         ensures bounds { IfOk result (λ w. w.bounds ≡ bounds) }
         ensures rules { IfOk result (λ w. w.rules ≡ rules) }
-        ensures axioms { IfOk result (λ w. AreAxioms bounds w.values.items (cells_of bounds)) }
+        ensures axioms { IfOk result (λ w. AreAxioms bounds w.nodes.list w.values.items
+            w.places.items (cells_of bounds)) }
         ensures settled { IfOk result AllSettled }
     {
-        let room = bounds.cells() as usize;
-        let mut values = Vec::with_capacity(alloc, room)?;
-        let mut flags = Vec::with_capacity(alloc, room)?;
+        let cells = bounds.cells() as usize;
+        let mut nodes = Nodes::with_room(alloc, room_of(bounds))?;
+        let mut values = Vec::with_capacity(alloc, cells)?;
+        let mut places = Vec::with_capacity(alloc, cells)?;
+        let mut flags = Vec::with_capacity(alloc, cells)?;
         for n in 0..bounds.cells() {
-            values.push_reserved(axiom_value(Cell::at(bounds, n)));
+            let node = axiom_node(alloc, bounds, Cell::at(bounds, n))?;
+            nodes.push(node);
+            values.push_reserved(node.k);
+            places.push_reserved(n);
             flags.push_reserved(true);
         }
         Ok(Work {
             bounds,
             rules,
             values,
+            places,
+            nodes,
             flags,
             from: 0,
         })
@@ -55,8 +83,17 @@ impl Work {
         requires { InBounds self.now.bounds cell }
         ensures value { result ≡ value_in self.now cell }
         ensures high { result ≤ 16 }
+        ensures within { result ≤ columns_of cell }
     {
         self.values[cell.number(self.bounds) as usize]
+    }
+
+    // The number of the node that concludes the cell's value.
+    pub(crate) fn place(&self, cell: Cell) -> u32
+        requires { InBounds self.now.bounds cell }
+        ensures { result ≡ place_in self.now cell }
+    {
+        self.places[cell.number(self.bounds) as usize]
     }
 
     // The sum of the values of all cells.
@@ -85,17 +122,39 @@ impl Work {
         None
     }
 
-    fn raise(&mut self, cell: Cell, k: u8)
-        requires inside { InBounds self.old.bounds cell }
-        requires high { k ≤ 16 }
-        ensures { IsRaised self.old self.new cell k }
+    // The rule with the nodes of the instance's parents.
+    fn made_by(&self, instance: &Instance) -> Made
+        requires { IsInstance self.now.bounds self.now.rules instance.now }
+        ensures { result ≡ made_of self.now instance.now }
     {
-        let n = cell.number(self.bounds) as usize;
+        let first = self.place(instance.first);
+        match instance.second {
+            None => Made::One(instance.rule, first),
+            Some(second) => Made::Two(instance.rule, first, self.place(second)),
+        }
+    }
+
+    // The target takes what the instance concludes for its value, and waits.
+    fn raise(&mut self, instance: &Instance, k: u8)
+        requires instance { IsInstance self.old.bounds self.old.rules instance.now }
+        requires concluded { k ≡ conclusion_of instance.now (value_in self.old instance.now.first)
+            (value_in self.old (second_of instance.now)) }
+        requires higher { value_in self.old instance.now.target < k }
+        requires high { k ≤ 16 }
+        ensures { IsRaised self.old self.new instance.now k }
+    {
+        let n = instance.target.number(self.bounds) as usize;
+        let made = self.made_by(instance);
+        let place = self.nodes.len();
+        self.nodes.push(Node {
+            made,
+            cell: instance.target,
+            k,
+        });
+        self.places[n] = place;
         self.values[n] = k;
         self.flags[n] = true;
-        if n < self.from {
-            self.from = n;
-        }
+        self.from = self.from.min(n);
     }
 
     // Tries the instance once.
@@ -109,13 +168,54 @@ impl Work {
         let second = self.value(instance.other());
         let k = conclude(instance, first, second, steps);
         if self.value(instance.target) < k {
-            self.raise(instance.target, k);
+            self.raise(instance, k);
         }
     }
 
-    // Tries each instance of the line once.
-    #[inline(always)]
+    // Tries each instance of the line once. In a loop of its own for each rule with two parents the
+    // stage is a constant, so that nothing is decided anew for each instance.
     fn try_line<L: Ledger>(&mut self, cell: Cell, line: &Line, steps: &mut Steps<L>)
+        requires inside { InBounds self.old.bounds cell }
+        requires right { IsLineOf self.old cell line.now }
+        requires some { line.now.first ≤ line.now.last }
+        ensures grows { Grows self.old self.new }
+        ensures tried { LineSettled self.old cell line.now self.new }
+    {
+        match line.stage {
+            Stage::ProductFirst => {
+                let line = Line {
+                    stage: Stage::ProductFirst,
+                    ..*line
+                };
+                self.run_line(cell, &line, steps)
+            }
+            Stage::ProductSecond => {
+                let line = Line {
+                    stage: Stage::ProductSecond,
+                    ..*line
+                };
+                self.run_line(cell, &line, steps)
+            }
+            Stage::UuvFirst => {
+                let line = Line {
+                    stage: Stage::UuvFirst,
+                    ..*line
+                };
+                self.run_line(cell, &line, steps)
+            }
+            Stage::UuvSecond => {
+                let line = Line {
+                    stage: Stage::UuvSecond,
+                    ..*line
+                };
+                self.run_line(cell, &line, steps)
+            }
+            Stage::Single(_) | Stage::End => self.run_line(cell, line, steps),
+        }
+    }
+
+    #[inline(always)]
+    fn run_line<L: Ledger>(&mut self, cell: Cell, line: &Line, steps: &mut Steps<L>)
         requires inside { InBounds self.old.bounds cell }
         requires right { IsLineOf self.old cell line.now }
         requires some { line.now.first ≤ line.now.last }

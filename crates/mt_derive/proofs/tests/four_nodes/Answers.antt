@@ -1,7 +1,6 @@
 use Rattle.std.proofs.Common.{◌≡◌, ℕ, zero, suc, [], ◌∷◌, refl, ap, ◌∙◌, subst, arith}
 use Rattle.mt_linear.specs.declared.Order.TheVariants.{Q2}
 use Rattle.mt_cells.specs.declared.bounds.Bounds.{Bounds}
-use Rattle.mt_cells.specs.declared.cells.Cell.{Cell}
 use Rattle.mt_cells.specs.declared.cells.Cell.TheVariants.{Ooa}
 use Rattle.mt_cells.specs.declared.rules.Rule.TheVariants.{Fewer, Deeper}
 use Rattle.mt_derive.specs.declared.nodes.Made.TheVariants as made

@@ -1,8 +1,8 @@
 use Rattle.std.proofs.Common.{refl, arith}
 use Rattle.std.proofs.lemmas.Result.{IfOk-weaker}
-use Rattle.mt_rules_basic.specs.Axioms.{IsParity}
 use Rattle.mt_system.specs.Rows.{Strength}
-use Rattle.mt_rules_basic.proofs.PaddedLemmas.{with_digits}
+use Rattle.mt_system.proofs.Makes.{with_digits}
+use Rattle.mt_rules_basic.specs.Axioms.{IsParity}
 use Rattle.mt_rules_basic.proofs.AxiomLemmas.{parity_strength}
 use Rattle.mt_rules_basic.proofs.axioms.parity.Goals as goal
 

@@ -1,8 +1,8 @@
 use Rattle.std.proofs.Common.{ℕ, ◌≤◌, IfOk, refl, arith}
 use Rattle.std.proofs.lemmas.Result.{IfOk-weaker}
 use Rattle.mt_system.specs.Rows.{Strength, SequenceStrength}
+use Rattle.mt_system.proofs.Makes.{with_digits}
 use Rattle.mt_rules_basic.specs.Rules.{IsNet}
-use Rattle.mt_rules_basic.proofs.PaddedLemmas.{with_digits}
 use Rattle.mt_rules_basic.proofs.SequenceLemmas.{net_strength}
 use Rattle.mt_rules_basic.proofs.sequences.seq_to_net.Goals as goal
 

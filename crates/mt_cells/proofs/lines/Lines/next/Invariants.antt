@@ -1,6 +1,6 @@
-use Rattle.std.proofs.Common.{◌≡◌, ℕ, ◌≤◌}
+use Rattle.std.proofs.Common.{◌≡◌, ℕ, ◌+◌, ◌*◌, ◌-◌, ◌≤◌}
 use Rattle.mt_cells.specs.declared.lines.Stage.{Stage}
-use Rattle.mt_cells.specs.Places.{IsPlace, key, left}
+use Rattle.mt_cells.specs.Places.{IsPlace, key, left, all_stages}
 use Rattle.mt_cells.proofs.lines.Lines.next.Given as goal
 
 abbrev pub invariant-loop-self : goal.invariant-loop-self
@@ -14,4 +14,4 @@ invariant-loop-self l = record {
 }
 
 abbrev pub decreases-loop-self : goal.decreases-loop-self
-decreases-loop-self l = left l.self.bounds l.self.stage l.self.m l.self.depth
+decreases-loop-self l = (all_stages + 1) * 1024 - key l.self.stage l.self.m l.self.depth

@@ -1,0 +1,147 @@
+//! The lines of derivations.
+ghost use Rattle.std.specs.Prelude.{◌≡◌, ◌<◌, ◌++◌, length, IfOk, OnOk};
+ghost use Rattle.mt_cells.specs.Cells.{InBounds};
+ghost use Rattle.mt_answer.specs.Answers.{IsTreeText};
+ghost use Rattle.mt_answer.specs.Texts.{cell_text, rule_text, made_text, place_in, parents_text, rule_part, conclusion_part, node_text};
+
+use crate::lines::push_labelled;
+use mt_cells::{Cell, Rule};
+use mt_derive::{Made, Node, reachable};
+use mt_table::Table;
+use std::alloc::{AllocError, Global};
+
+/// The lines of the derivation of the cell's value.
+pub(crate) fn tree_lines(alloc: Global, table: &Table, cell: Cell) -> Result<Vec<u8>, AllocError>
+    requires { InBounds table.now.bounds cell }
+    ensures { IfOk result (λ text. IsTreeText table.now cell text.items) }
+{
+    let nodes = table.nodes();
+    let found = reachable(alloc, nodes, table.node_of(cell))?;
+    let mut text = Vec::new(alloc);
+    for place in 0..found.len() {
+        push_node(alloc, &mut text, &found, place, nodes.get(found[place]))?;
+    }
+    Ok(text)
+}
+
+// Adds the line of the node at this place.
+fn push_node(
+    alloc: Global,
+    text: &mut Vec<u8>,
+    found: &[u32],
+    place: usize,
+    node: Node,
+) -> Result<(), AllocError>
+    requires { place < length found.now }
+    ensures { OnOk result (text.new.items ≡ text.old.items ++ node_text found.now place node) }
+{
+    push_labelled(alloc, text, b"", place as u64 + 1)?;
+    push_rule(alloc, text, found, node.made)?;
+    push_conclusion(alloc, text, node)
+}
+
+// Adds the cell and the value, and ends the line.
+#[tactic(auto, unfolding(crate::specs::Texts::conclusion_part))]
+fn push_conclusion(alloc: Global, text: &mut Vec<u8>, node: Node) -> Result<(), AllocError>
+    ensures { OnOk result (text.new.items ≡ text.old.items ++ conclusion_part node) }
+{
+    push_cell(alloc, text, node.cell)?;
+    push_labelled(alloc, text, b" k ", node.k as u64)?;
+    text.push(b'\n')?;
+    Ok(())
+}
+
+// Adds what the node is made of, with blanks round it.
+#[tactic(auto, unfolding(crate::specs::Texts::rule_part))]
+fn push_rule(alloc: Global, text: &mut Vec<u8>, found: &[u32], made: Made) -> Result<(), AllocError>
+    ensures { OnOk result (text.new.items ≡ text.old.items ++ rule_part found.now made) }
+{
+    text.push(b' ')?;
+    push_made(alloc, text, made)?;
+    text.push(b' ')?;
+    push_parents(alloc, text, found, made)?;
+    text.push(b' ')?;
+    Ok(())
+}
+
+// Adds the name of an axiom, an import or a rule.
+fn push_made(alloc: Global, text: &mut Vec<u8>, made: Made) -> Result<(), AllocError>
+    ensures { OnOk result (text.new.items ≡ text.old.items ++ made_text made) }
+{
+    match made {
+        Made::Zero => text.extend_from_slice(b"zero"),
+        Made::Constant => text.extend_from_slice(b"constant"),
+        Made::Identity => text.extend_from_slice(b"identity"),
+        Made::Parity => text.extend_from_slice(b"parity"),
+        Made::Import(n) => push_labelled(alloc, text, b"import/", n as u64),
+        Made::One(rule, _) | Made::Two(rule, _, _) => text.extend_from_slice(rule_name(rule)),
+    }
+}
+
+fn rule_name(rule: Rule) -> &'static [u8]
+    ensures { result.now ≡ rule_text rule }
+{
+    match rule {
+        Rule::Fewer => b"fewer",
+        Rule::Shallower => b"shallower",
+        Rule::Deeper => b"deeper",
+        Rule::Longer => b"longer",
+        Rule::QuotientKeep => b"quotient_keep",
+        Rule::QuotientDrop => b"quotient_drop",
+        Rule::SeqFewer => b"seq_fewer",
+        Rule::SeqCut => b"seq_cut",
+        Rule::SeqToNet => b"seq_to_net",
+        Rule::Product => b"product",
+        Rule::Uuv => b"uuv",
+    }
+}
+
+// Adds the numbers of the parents in the answer.
+fn push_parents(
+    alloc: Global,
+    text: &mut Vec<u8>,
+    found: &[u32],
+    made: Made,
+) -> Result<(), AllocError>
+    ensures { OnOk result (text.new.items ≡ text.old.items ++ parents_text found.now made) }
+{
+    match made {
+        Made::One(_, parent) => push_labelled(alloc, text, b"", place_of(found, parent) as u64),
+        Made::Two(_, first, second) => {
+            push_labelled(alloc, text, b"", place_of(found, first) as u64)?;
+            push_labelled(alloc, text, b",", place_of(found, second) as u64)
+        }
+        _ => text.extend_from_slice(b"-"),
+    }
+}
+
+// The place of the first of these numbers that is this one, counted from 1.
+fn place_of(found: &[u32], number: u32) -> usize
+    ensures { result ≡ place_in found.now number }
+{
+    for place in 0..found.len() {
+        if found[place] == number {
+            return place + 1;
+        }
+    }
+    found.len()
+}
+
+// Adds the cell.
+fn push_cell(alloc: Global, text: &mut Vec<u8>, cell: Cell) -> Result<(), AllocError>
+    ensures { OnOk result (text.new.items ≡ text.old.items ++ cell_text cell) }
+{
+    match cell {
+        Cell::Ooa { order, m, s, depth } => {
+            push_labelled(alloc, text, b"ooa ", order.number() as u64)?;
+            push_labelled(alloc, text, b" ", m as u64)?;
+            push_labelled(alloc, text, b" ", s as u64)?;
+            push_labelled(alloc, text, b" ", depth as u64)
+        }
+        Cell::Seq { order, m, s } => {
+            push_labelled(alloc, text, b"seq ", order.number() as u64)?;
+            push_labelled(alloc, text, b" ", m as u64)?;
+            push_labelled(alloc, text, b" ", s as u64)
+        }
+    }
+}

@@ -1,0 +1,4 @@
+pub mod Expansions
+pub mod Laws
+pub mod Matrices
+pub mod Rows

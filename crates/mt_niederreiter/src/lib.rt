@@ -1,0 +1,14 @@
+//! Niederreiter's digital sequences: their matrices, their quality parameter, and the theorem that
+//! joins the two.
+#![tactic(auto)]
+
+mod expansions;
+pub mod laws;
+mod qualities;
+mod rows;
+mod systems;
+#[cfg(test)]
+mod tests;
+
+pub use qualities::quality;
+pub use systems::matrices;

@@ -1,0 +1,11 @@
+pub mod Action
+pub mod Monic
+pub mod Euclid
+pub mod CommonDivisors
+pub mod Apart
+pub mod ListLemmas
+pub mod NumberLemmas
+pub mod PolynomialBridge
+pub mod CoprimeBridge
+pub mod GreatestLemmas
+pub mod MemberLemmas

@@ -1,0 +1,2 @@
+pub mod AbstractPairs
+pub mod PairLemmas
