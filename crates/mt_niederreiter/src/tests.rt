@@ -1,7 +1,6 @@
 //! Values that a plain program computed.
 use super::*;
 use mt_linear::Order;
-use mt_strength::{SeqVerdict, check_sequence};
 use std::test::Fail;
 
 #[test]
@@ -40,14 +39,4 @@ fn three_coordinates_of_order_two(rt: HostRuntime) -> Result<(), Fail> {
     assert_eq!(rt; &system.digits()[9..18], second.as_slice());
     assert_eq!(rt; &system.digits()[18..], third.as_slice());
     Ok(())
-}
-
-#[test]
-fn strength_as_it_is_checked(rt: HostRuntime) -> Result<(), Fail> {
-    let alloc = rt.alloc();
-    let system = matrices(alloc, Order::Q2, 3, 3)?;
-    match check_sequence(alloc, &system, 2)? {
-        SeqVerdict::Holds => Ok(()),
-        SeqVerdict::Dependent { .. } => Err("a dependent choice".into()),
-    }
 }
