@@ -1,4 +1,4 @@
-// Lists of coefficients, the constant first. Past the end they read as 0.
+//! Lists of coefficients, the constant first. Past the end they read as 0.
 ghost use Rattle.std.specs.Prelude.{◌≡◌, ◌≢◌, ℕ, ◌+◌, ◌-◌, ◌<◌, ◌≤◌, length, slice_index, IfOk};
 ghost use Rattle.mt_linear.specs.Field.{add_of, mul_of, number_of};
 ghost use Rattle.mt_linear.specs.Linear.{AllElements};
