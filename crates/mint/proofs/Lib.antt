@@ -3,3 +3,4 @@ mod EndLemmas
 mod InputLemmas
 mod TextLemmas
 mod WordLemmas
+pub mod SequenceLemmas

@@ -1,5 +1,5 @@
 -- Numbers and questions among words.
-use Rattle.std.proofs.Common.{Bor, ◌≡◌, ◌≢◌, ℕ, ◌+◌, ◌^◌, ◌<◌, ◌≤◌, List, [], ◌++◌, ◌∷◌, length, get_or, codes, decimal, ap, ap₂, sym, ◌∙◌, subst, arith, inl, inr}
+use Rattle.std.proofs.Common.{Bor, ◌≡◌, ◌≢◌, ℕ, ◌+◌, ◌^◌, ◌<◌, ◌≤◌, List, ◌++◌, ◌∷◌, length, get_or, decimal, ap, ap₂, sym, ◌∙◌, subst, arith, inl, inr}
 use Rattle.std.specs.Prelude.{Option, None, Some, Result, Ok, Err, MatchOption, IsSome, IfSome, ◌↔◌}
 use Rattle.std.specs.Result.{OkIff, result_ok}
 use Rattle.std.specs.Str.Parse.{AllDigits, digits_value}
@@ -8,11 +8,7 @@ use Rattle.std.proofs.lemmas.Fmt.{decimal_digit, decimal_injective, first_decima
 use Rattle.std.proofs.lemmas.Str.Parse.{IsNumeralModel, numerals_by_value, tells_digits, not_in_digits}
 use Rattle.std.proofs.lemmas.Str.Pattern.{IsSplitOnceResult, split_after}
 use Rattle.mt_cells.specs.declared.bounds.Bounds.{Bounds}
-use Rattle.mt_cells.specs.declared.asks.Ask.{Ask}
-use Rattle.mt_answer.specs.Answers.{ask_of}
-use Rattle.mint.specs.declared.words.Task.{Task}
-use Rattle.mint.specs.declared.words.Task.TheVariants as task
-use Rattle.mint.specs.Words.{IsPlain, bounds_word, question_word, IsAskFor, IsTask}
+use Rattle.mint.specs.Words.{IsPlain, bounds_word}
 
 pub own : IsNumeralModel (AllDigits 10) (digits_value 10)
 own = numerals_by_value (AllDigits 10) tells_digits
@@ -64,13 +60,3 @@ bounds_read word front back m s whole front_is back_is small low cut None taken 
     absurd (false≢true (taken.1 (same_bounds b m s small low (sym front_is ∙ parts.0) (sym back_is ∙ parts.1))))
 bounds_read word front back m s whole front_is back_is small low cut (Some b) taken m_is s_is =
     whole ∙ ap₂ (λ (x y : List ℕ). x ++ 44 ∷ y) (front_is ∙ ap decimal (sym m_is)) (back_is ∙ ap decimal (sym s_is))
-
--- ---- questions
-
--- no task starts with this word where what stands behind it asks for nothing
-pub asks_nothing : (word : List ℕ) (words rest : List (List ℕ)) → word ≢ codes "check" → words ≡ word ∷ rest → ((a : Ask) → ¬ IsAskFor rest a) → (t : Task) → ¬ IsTask words t
-asks_nothing word words rest ne e none task.Check is = ne (let both : word ∷ rest ≡ codes "check" ∷ [] = sym e ∙ is in cc)
-asks_nothing word words rest ne e none (task.Ask question) is =
-    let both : word ∷ rest ≡ question_word question ∷ is.0 = sym e ∙ is.1 in
-    let same : is.0 ≡ rest = cc in
-    none (ask_of question) (subst (λ r. IsAskFor r (ask_of question)) same is.2)

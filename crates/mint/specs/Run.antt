@@ -1,12 +1,21 @@
 -- What a command answers.
-use Rattle.std.specs.Prelude.{◌≡◌, ◌≢◌, ℕ, true, List, [], cond, Option}
+use Rattle.std.specs.Prelude.{◌≡◌, ◌≢◌, ℕ, ◌-◌, true, List, [], cond, Option}
+use Rattle.mt_linear.specs.declared.Order.{Order}
+use Rattle.mt_system.specs.Rows.{Matrices}
+use Rattle.mt_niederreiter.specs.Matrices.{IsMatricesOf, IsQuality}
 use Rattle.mt_cells.specs.declared.bounds.Bounds.{Bounds}
 use Rattle.mt_cells.specs.declared.rules.Rule.{Rule}
+use Rattle.mt_cells.specs.declared.cells.Cell.TheVariants.{Seq}
+use Rattle.mt_cells.specs.declared.asks.Ask.{Ask}
+use Rattle.mt_cells.specs.declared.asks.Kind.TheVariants as kind
+use Rattle.mt_cells.specs.declared.asks.Part.{Part}
 use Rattle.mt_cells.specs.declared.asks.Question.{Question}
+use Rattle.mt_cells.specs.Asks.{IsAsked, IsOutside}
 use Rattle.mt_cells.specs.Instances.{has_rule}
 use Rattle.mt_table.specs.Tables.{Contents}
 use Rattle.mt_answer.specs.declared.texts.Text.{Text}
 use Rattle.mt_answer.specs.Answers.{IsAnswer}
+use Rattle.mt_answer.specs.Texts.{outside_text}
 use Rattle.mint.specs.declared.status.Status.{Status}
 use Rattle.mint.specs.declared.status.Status.TheVariants.{Ok, Memory, Words, Refused, ReadFault, WriteFault, Outside}
 use Rattle.mint.specs.declared.checks.Outcome.{Outcome}
@@ -17,7 +26,7 @@ use Rattle.mint.specs.declared.words.Command.{Command}
 use Rattle.mint.specs.Input.{IsInput}
 use Rattle.mint.specs.Output.{Wrote, WroteFront}
 use Rattle.mint.specs.Outcomes.{IsOutcome}
-use Rattle.mint.specs.Texts.{usage_text, outcome_text}
+use Rattle.mint.specs.Texts.{usage_text, outcome_text, sequence_text}
 use Rattle.mint.specs.Words.{IsCommand}
 
 -- a claim that holds is well, and all else is refused
@@ -52,10 +61,29 @@ pub record IsAnswered (b : Bounds) (question : Question) (status : Status) (outp
   pub status_is : status ≡ cond text.outside Outside Ok
   pub output_is : output ≡ text.bytes.items
 
+-- what Niederreiter's matrices are asked for by: a sequence
+abbrev pub sequence_ask : ℕ → ℕ → ℕ → Ask
+sequence_ask q m s = record { kind = kind.Seq; q = q; m = m; s = s; depth = 0 }
+
+-- the import text of Niederreiter's matrices, which claims their quality parameter, or m where that is less
+pub record IsSequenceText (o : Order) (m s : ℕ) (output : List ℕ) : Type 0 where
+  pub system : Matrices
+  pub made : IsMatricesOf o m s system
+  pub t : ℕ
+  pub quality : IsQuality o s t
+  pub output_is : output ≡ sequence_text (m - t) system
+
+-- the status and the output for Niederreiter's matrices of these sizes
+abbrev pub IsNiederreiter : Bounds → Ask → Status → List ℕ → Type 0
+IsNiederreiter b a Ok output = (o : Order) × (m s : ℕ) × IsAsked b a (Seq o m s) × IsSequenceText o m s output
+IsNiederreiter b a Outside output = (name : Part) × (number : ℕ) × IsOutside b a name number × (output ≡ outside_text name number)
+IsNiederreiter b a status output = ⊥
+
 -- what a task does
 abbrev pub Does : Bounds → Task → Option (List ℕ) → Option (List ℕ) → Status → List ℕ → Type 0
 Does b task.Check before after status output = IsChecked b before after status output
 Does b (task.Ask question) before after status output = IsAnswered b question status output
+Does b (task.Niederreiter q m s) before after status output = IsNiederreiter b (sequence_ask q m s) status output
 
 -- the words are a command, which is done
 pub record IsDoneBy (words : List (List ℕ)) (before after : Option (List ℕ)) (status : Status) (output : List ℕ) : Type 0 where

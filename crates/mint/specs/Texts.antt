@@ -3,6 +3,8 @@ use Rattle.std.specs.Prelude.{ℕ, List, [], ◌∷◌, ◌++◌, map, codes, de
 use Rattle.std.specs.List.{join_with_byte}
 use Rattle.mt_system.specs.declared.claims.Form.{Form}
 use Rattle.mt_system.specs.declared.claims.Form.TheVariants.{Ooa, Net, Seq}
+use Rattle.mt_system.specs.Rows.{Matrices}
+use Rattle.mt_import.specs.Canonical.{canonical_text}
 use Rattle.mt_import.specs.declared.refusals.FormRefused.{FormRefused}
 use Rattle.mt_import.specs.declared.refusals.FormRefused.TheVariants.{TooLong, Line}
 use Rattle.mt_import.specs.declared.refusals.Wanted.{Wanted}
@@ -43,3 +45,7 @@ outcome_text (outcome.Range name number limit) =
 outcome_text (outcome.TooManyChoices count) = codes "refused: " ++ decimal count ++ codes " choices, more than 500000\n"
 outcome_text (outcome.Dependent form part choice coefficients) =
     codes "refused: " ++ failing_part form part ++ codes "choice " ++ listed choice ++ codes " depends with " ++ listed coefficients.digits ++ 10 ∷ []
+
+-- the import text of the system under the name `niederreiter`, with the sequence strength u
+abbrev pub sequence_text : ℕ → Matrices → List ℕ
+sequence_text u system = canonical_text (record { form = Seq; name = codes "niederreiter"; k = u; system = system })

@@ -4,9 +4,7 @@ use Rattle.mt_cells.specs.declared.bounds.Bounds.{Bounds}
 use Rattle.mt_cells.specs.declared.asks.Kind.{Kind}
 use Rattle.mt_cells.specs.declared.asks.Kind.TheVariants.{Net, Oa, Ooa, Seq}
 use Rattle.mt_cells.specs.declared.asks.Ask.{Ask}
-use Rattle.mt_cells.specs.declared.asks.Question.{Question}
-use Rattle.mt_cells.specs.declared.asks.Question.TheVariants.{Value, Tree, Matrix}
-use Rattle.mt_answer.specs.Answers.{ask_of}
+use Rattle.mt_cells.specs.declared.asks.Question.TheVariants.{Value, Tree, Matrix, Table, Export}
 use Rattle.mint.specs.declared.words.Task.{Task}
 use Rattle.mint.specs.declared.words.Task.TheVariants as task
 use Rattle.mint.specs.declared.words.Command.{Command}
@@ -48,16 +46,37 @@ pub record IsAskFor (words : List (List ℕ)) (a : Ask) : Type 0 where
   pub words_are : words ≡ kind_word a.kind ∷ sizes
   pub is_sizes : IsSizes a.kind sizes a
 
-abbrev pub question_word : Question → List ℕ
-question_word (Value a) = codes "value"
-question_word (Tree a) = codes "tree"
-question_word (Matrix a) = codes "matrix"
+-- these words are two numbers
+abbrev pub AreTwo : List (List ℕ) → ℕ → ℕ → Type 0
+AreTwo words q m = (q < 2 ^ 64) × (m < 2 ^ 64) × (words ≡ decimal q ∷ decimal m ∷ [])
+
+-- these words are three numbers
+abbrev pub AreThree : List (List ℕ) → ℕ → ℕ → ℕ → Type 0
+AreThree words q m s = (q < 2 ^ 64) × (m < 2 ^ 64) × (s < 2 ^ 64) × (words ≡ decimal q ∷ decimal m ∷ decimal s ∷ [])
+
+-- the first word behind the bounds
+abbrev pub task_word : Task → List ℕ
+task_word task.Check = codes "check"
+task_word (task.Ask (Value a)) = codes "value"
+task_word (task.Ask (Tree a)) = codes "tree"
+task_word (task.Ask (Matrix a)) = codes "matrix"
+task_word (task.Ask (Table q m)) = codes "table"
+task_word (task.Ask Export) = codes "export"
+task_word (task.Niederreiter q m s) = codes "niederreiter"
+
+-- the words behind that
+abbrev pub AreFor : Task → List (List ℕ) → Type 0
+AreFor task.Check words = words ≡ []
+AreFor (task.Ask (Value a)) words = IsAskFor words a
+AreFor (task.Ask (Tree a)) words = IsAskFor words a
+AreFor (task.Ask (Matrix a)) words = IsAskFor words a
+AreFor (task.Ask (Table q m)) words = AreTwo words q m
+AreFor (task.Ask Export) words = words ≡ []
+AreFor (task.Niederreiter q m s) words = AreThree words q m s
 
 -- the words behind the bounds
 abbrev pub IsTask : List (List ℕ) → Task → Type 0
-IsTask words task.Check = words ≡ codes "check" ∷ []
-IsTask words (task.Ask question) =
-    (rest : List (List ℕ)) × (words ≡ question_word question ∷ rest) × IsAskFor rest (ask_of question)
+IsTask words t = (rest : List (List ℕ)) × (words ≡ task_word t ∷ rest) × AreFor t rest
 
 -- the words of a command: its bounds, and then its task
 pub record IsCommand (words : List (List ℕ)) (c : Command) : Type 0 where

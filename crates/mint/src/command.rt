@@ -5,15 +5,16 @@ ghost use Rattle.mt_cells.specs.declared.rules.Rule.{Rule};
 ghost use Rattle.mt_cells.specs.Instances.{has_rule};
 ghost use Rattle.mint.specs.Input.{IsInput, TakesAtMost};
 ghost use Rattle.mint.specs.Output.{Wrote, WroteFront};
-ghost use Rattle.mint.specs.Run.{outcome_status, IsCheck, IsChecked, IsAnswered, Does, AsksForNoCheck, IsEnd};
+ghost use Rattle.mint.specs.Run.{outcome_status, IsCheck, IsChecked, IsAnswered, sequence_ask, IsNiederreiter, Does, AsksForNoCheck, IsEnd};
 
 use crate::checks::{Outcome, check_text};
 use crate::input::{InputRefused, read_input};
+use crate::sequences::sequence_lines;
 use crate::status::Status;
 use crate::texts::{USAGE, outcome_line};
 use crate::words::{Command, Task, read_words};
-use mt_answer::text;
-use mt_cells::{Bounds, Question, RuleSet, Steps};
+use mt_answer::{outside_line, text};
+use mt_cells::{Ask, Bounds, Cell, Kind, Question, RuleSet, Steps};
 use mt_io::{Failed, Sink, Source};
 use mt_table::Table;
 use std::alloc::{AllocError, Global};
@@ -28,8 +29,10 @@ const MOST: usize = 65537;
 /// `M,S check` reads one import text from the input, to its end or its 65,537th byte, and writes
 /// whether its claim holds. `M,S value` and a question write the greatest value that a derivation
 /// has for a cell, `M,S tree` and the same question a derivation with this value, and `M,S matrix`
-/// the generator matrices that it makes, as an import text. All other words give the usage. Only
-/// `check` touches the input. What is written is written once the answer is known.
+/// the generator matrices that it makes, as an import text. `M,S table` and `M,S export` write the
+/// values of many cells, and `M,S niederreiter` the generator matrices of a sequence, as an import
+/// text. All other words give the usage. Only `check` touches the input. What is written is written
+/// once the answer is known.
 pub fn run_command<R: Source, W: Sink>(
     alloc: Global,
     words: &[String],
@@ -80,6 +83,7 @@ fn done<R: Source>(alloc: Global, command: Command, input: &mut R) -> Result<Ans
     match command.task {
         Task::Check => checked_input(alloc, command.bounds, input),
         Task::Ask(question) => Ok(answered(alloc, command.bounds, &question)?),
+        Task::Niederreiter { q, m, s } => Ok(sequence_made(alloc, command.bounds, q, m, s)?),
     }
 }
 
@@ -121,6 +125,36 @@ fn answered(alloc: Global, bounds: Bounds, question: &Question) -> Result<Answer
         status: answer_status(found.outside),
         text: found.bytes,
     })
+}
+
+// The answer with Niederreiter's matrices.
+fn sequence_made(
+    alloc: Global,
+    bounds: Bounds,
+    q: u64,
+    m: u64,
+    s: u64,
+) -> Result<Answer, AllocError>
+    ensures { IfOk result (λ a. IsNiederreiter bounds (sequence_ask q m s) a.status a.text.items) }
+{
+    let ask = Ask {
+        kind: Kind::Seq,
+        q,
+        m,
+        s,
+        depth: 0,
+    };
+    match ask.cell(bounds) {
+        Ok(Cell::Seq { order, m, s }) => Ok(Answer {
+            status: Status::Ok,
+            text: sequence_lines(alloc, order, m, s)?,
+        }),
+        Ok(Cell::Ooa { .. }) => unreachable!(),
+        Err(outside) => Ok(Answer {
+            status: Status::Outside,
+            text: outside_line(alloc, outside)?,
+        }),
+    }
 }
 
 fn answer_status(outside: bool) -> Status

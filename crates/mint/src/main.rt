@@ -6,9 +6,12 @@ mod command;
 mod input;
 #[cfg(test)]
 mod sequence_tests;
+mod sequences;
 #[cfg(test)]
 mod served_tests;
 mod status;
+#[cfg(test)]
+mod table_tests;
 #[cfg(test)]
 mod tests;
 mod texts;

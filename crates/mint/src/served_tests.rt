@@ -11,7 +11,7 @@ use std::test::Fail;
 
 #[test]
 fn derivations_as_they_are_shown(rt: HostRuntime) -> Result<(), Fail> {
-    let cases: [(&[&str], &[u8]); 4] = [
+    let cases: [(&[&str], &[u8]); 5] = [
         (
             &["3,4", "tree", "oa", "2", "3", "4"],
             b"1 parity - ooa 2 3 4 1 k 3\n",
@@ -26,7 +26,11 @@ fn derivations_as_they_are_shown(rt: HostRuntime) -> Result<(), Fail> {
         ),
         (
             &["4,8", "tree", "seq", "9", "3", "2"],
-            b"1 zero - seq 9 3 2 k 0\n",
+            b"1 niederreiter - seq 9 3 2 k 3\n",
+        ),
+        (
+            &["4,8", "tree", "seq", "2", "3", "4"],
+            b"1 zero - seq 2 3 4 k 0\n",
         ),
     ];
     assert_answers(&rt, rt.alloc(), Status::Ok, &cases)
@@ -49,7 +53,7 @@ fn matrices_as_they_are_shown(rt: HostRuntime) -> Result<(), Fail> {
         ),
         (
             &["4,8", "matrix", "seq", "2", "2", "1"],
-            b"seq 2 2 1 2 mint\n00\n00\n",
+            b"seq 2 2 1 0 mint\n10\n01\n",
         ),
     ];
     assert_answers(&rt, rt.alloc(), Status::Ok, &cases)

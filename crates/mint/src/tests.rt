@@ -31,7 +31,7 @@ pub(crate) fn run(
 ) -> Result<(Status, Vec<u8>), AllocError> {
     let words = words(alloc, texts)?;
     let mut input = SteadySource::new(Vec::from_slice(alloc, text)?, piece.max(1));
-    let mut output = SteadySink::new(alloc, 200)?;
+    let mut output = SteadySink::new(alloc, 4096)?;
     let status = run_command(alloc, &words, &mut input, &mut output);
     Ok((status, Vec::from_slice(alloc, output.bytes())?))
 }
@@ -117,7 +117,35 @@ pub(crate) fn assert_answers(
 
 #[test]
 fn questions_get_their_values(rt: HostRuntime) -> Result<(), Fail> {
-    let cases: [(&[&str], &[u8]); 7] = [
+    let cases: [(&[&str], &[u8]); 13] = [
+        (
+            &["4,8", "value", "net", "2", "3", "1"],
+            b"net 2 3 1: k 3, t 0, since 0, version 0\n",
+        ),
+        (
+            &["4,8", "value", "net", "2", "3", "3"],
+            b"net 2 3 3: k 3, t 0, since 0, version 0\n",
+        ),
+        (
+            &["4,8", "value", "net", "2", "3", "4"],
+            b"net 2 3 4: k 2, t 1, since 0, version 0\n",
+        ),
+        (
+            &["4,8", "value", "net", "2", "4", "6"],
+            b"net 2 4 6: k 3, t 1, since 0, version 0\n",
+        ),
+        (
+            &["4,8", "value", "net", "2", "4", "7"],
+            b"net 2 4 7: k 2, t 2, since 0, version 0\n",
+        ),
+        (
+            &["4,8", "value", "net", "3", "2", "4"],
+            b"net 3 2 4: k 2, t 0, since 0, version 0\n",
+        ),
+        (
+            &["4,8", "value", "oa", "2", "3", "3"],
+            b"oa 2 3 3: k 3, t 0, since 0, version 0\n",
+        ),
         (
             &["4,8", "value", "oa", "2", "3", "4"],
             b"oa 2 3 4: k 3, t 0, since 0, version 0\n",
@@ -127,24 +155,20 @@ fn questions_get_their_values(rt: HostRuntime) -> Result<(), Fail> {
             b"oa 2 4 8: k 3, t 1, since 0, version 0\n",
         ),
         (
-            &["4,8", "value", "net", "2", "3", "1"],
-            b"net 2 3 1: k 3, t 0, since 0, version 0\n",
-        ),
-        (
-            &["4,8", "value", "oa", "2", "3", "3"],
-            b"oa 2 3 3: k 3, t 0, since 0, version 0\n",
-        ),
-        (
-            &["4,8", "value", "net", "2", "3", "3"],
-            b"net 2 3 3: k 1, t 2, since 0, version 0\n",
-        ),
-        (
             &["4,8", "value", "seq", "2", "3", "1"],
-            b"seq 2 3 1: k 0, t 3, since 0, version 0\n",
+            b"seq 2 3 1: k 3, t 0, since 0, version 0\n",
+        ),
+        (
+            &["4,8", "value", "seq", "2", "4", "3"],
+            b"seq 2 4 3: k 3, t 1, since 0, version 0\n",
+        ),
+        (
+            &["16,32", "value", "net", "2", "10", "4"],
+            b"net 2 10 4: k 9, t 1, since 0, version 0\n",
         ),
         (
             &["16,32", "value", "ooa", "9", "16", "32", "7"],
-            b"ooa 9 16 32 7: k 3, t 13, since 0, version 0\n",
+            b"ooa 9 16 32 7: k 7, t 9, since 0, version 0\n",
         ),
     ];
     assert_answers(&rt, rt.alloc(), Status::Ok, &cases)

@@ -1,11 +1,11 @@
 //! The words of the command line.
-ghost use Rattle.std.specs.Prelude.{◌≡◌, ◌≢◌, ℕ, ◌^◌, ◌<◌, ◌++◌, ◌∷◌, [], decimal, map, string_bytes, List, MatchOption, IsTrue, ◌↔◌};
+ghost use Rattle.std.specs.Prelude.{◌≡◌, ◌≢◌, ℕ, ◌^◌, ◌<◌, ◌++◌, ◌∷◌, [], decimal, map, string_bytes, List, MatchOption, IsSome, IsTrue, ◌↔◌};
 ghost use Rattle.mt_cells.specs.declared.bounds.Bounds.{Bounds};
 ghost use Rattle.mt_cells.specs.declared.asks.Kind.{Kind};
 ghost use Rattle.mt_cells.specs.declared.asks.Ask.{Ask};
 ghost use Rattle.mint.specs.declared.words.Task.{Task};
 ghost use Rattle.mint.specs.declared.words.Command.{Command};
-ghost use Rattle.mint.specs.Words.{kind_word, bounds_word, IsPlain, IsSizes, IsAskFor, IsTask, IsCommand};
+ghost use Rattle.mint.specs.Words.{kind_word, bounds_word, IsPlain, IsSizes, IsAskFor, AreTwo, AreThree, IsTask, IsCommand};
 
 use mt_cells::{Ask, Bounds, Kind, Question};
 
@@ -23,13 +23,18 @@ pub enum Task {
     Check,
     /// Answer a question.
     Ask(Question),
+    /// Write Niederreiter's matrices over the field of q elements, of m columns, for s coordinates.
+    Niederreiter { q: u64, m: u64, s: u64 },
 }
 
 /// The command of these words, or `None` where they have no form:
 ///
 /// - `M,S check`;
 /// - `M,S value KIND Q M S` for KIND `net`, `oa` or `seq`, and `M,S value ooa Q M S DEPTH`;
-/// - the same with `tree` or `matrix` in place of `value`.
+/// - the same with `tree` or `matrix` in place of `value`;
+/// - `M,S table Q M`;
+/// - `M,S export`;
+/// - `M,S niederreiter Q M S`.
 ///
 /// `M,S` are bounds. A number is decimal, without sign and without a zero in front but for `0`
 /// itself, and is below 2^64.
@@ -70,17 +75,54 @@ fn read_task(words: &[String]) -> Option<Task>
     let (word, words) = first_word(words)?;
     match word {
         "check" => {
-            if words.is_empty() {
-                Some(Task::Check)
-            } else {
-                None
-            }
+            at_end(words)?;
+            Some(Task::Check)
         }
         "value" => Some(Task::Ask(Question::Value(read_asked(words)?))),
         "tree" => Some(Task::Ask(Question::Tree(read_asked(words)?))),
         "matrix" => Some(Task::Ask(Question::Matrix(read_asked(words)?))),
+        "table" => {
+            let (q, m) = read_two(words)?;
+            Some(Task::Ask(Question::Table { q, m }))
+        }
+        "export" => {
+            at_end(words)?;
+            Some(Task::Ask(Question::Export))
+        }
+        "niederreiter" => {
+            let (q, m, s) = read_three(words)?;
+            Some(Task::Niederreiter { q, m, s })
+        }
         _ => None,
     }
+}
+
+// Nothing, where no word is left.
+fn at_end(words: &[String]) -> Option<()>
+    ensures { IsSome result ↔ (map string_bytes words.now ≡ []) }
+{
+    if words.is_empty() { Some(()) } else { None }
+}
+
+// The two numbers that the words are.
+fn read_two(words: &[String]) -> Option<(u64, u64)>
+    ensures { MatchOption result ((q m : ℕ) → ¬ AreTwo (map string_bytes words.now) q m)
+        (λ r. AreTwo (map string_bytes words.now) r.0 r.1) }
+{
+    let (q, words) = first_number(words)?;
+    let (m, words) = first_number(words)?;
+    at_end(words)?;
+    Some((q, m))
+}
+
+// The three numbers that the words are.
+fn read_three(words: &[String]) -> Option<(u64, u64, u64)>
+    ensures { MatchOption result ((q m s : ℕ) → ¬ AreThree (map string_bytes words.now) q m s)
+        (λ r. AreThree (map string_bytes words.now) r.0 r.1 r.2) }
+{
+    let (q, words) = first_number(words)?;
+    let (m, s) = read_two(words)?;
+    Some((q, m, s))
 }
 
 // The kind and the sizes of a question.

@@ -1,5 +1,5 @@
 -- The claim of a served system.
-use Rattle.std.proofs.Common.{◌≡◌, ℕ, ◌≤◌, List, [], codes, refl, sym, ap, ◌∙◌, subst, arith}
+use Rattle.std.proofs.Common.{◌≡◌, ℕ, ◌≤◌, List, [], codes, refl, sym, ◌∙◌, subst, arith}
 use Rattle.std.proofs.lemmas.List.Elements.{All-nil, All-cons}
 use Rattle.std.specs.Prelude.{Contains}
 use Rattle.mt_linear.specs.declared.Order.{Order}
@@ -12,10 +12,9 @@ use Rattle.mt_cells.specs.declared.asks.Kind.TheVariants.{Net, Oa, Ooa, Seq}
 use Rattle.mt_cells.specs.declared.asks.Ask.{Ask}
 use Rattle.mt_cells.specs.Asks.{cell_by, IsAsked}
 use Rattle.mt_cells.specs.Cells.{InBounds, columns_of}
-use Rattle.mt_cells.specs.Trees.{Tree}
+use Rattle.mt_derive.specs.Trees.{Tree}
 use Rattle.mt_derive.specs.declared.nodes.Node.{Node}
 use Rattle.mt_derive.specs.Built.{IsBuilt}
-use Rattle.mt_derive.specs.Places.{IsAt}
 use Rattle.mt_derive.specs.Systems.{IsSystemOf, Has}
 use Rattle.mt_derive.proofs.ConcludedLemmas.{tree_same}
 use Rattle.mt_derive.proofs.PlaceLemmas.{place_same}

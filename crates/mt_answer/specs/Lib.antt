@@ -1,2 +1,4 @@
 pub mod Texts
+pub mod Sheets
 pub mod Answers
+pub mod Refusals

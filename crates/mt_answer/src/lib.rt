@@ -2,10 +2,14 @@
 #![tactic(auto)]
 
 mod answering;
+mod exports;
 mod lines;
 mod matrices;
+mod sheets;
+mod tables;
 mod texts;
 mod trees;
 
 pub use answering::text;
+pub use lines::outside_line;
 pub use texts::Text;

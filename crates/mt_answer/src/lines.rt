@@ -24,8 +24,8 @@ pub(crate) fn value_line(
     Ok(text)
 }
 
-// The line for a question outside the bounds.
-pub(crate) fn outside_line(alloc: Global, outside: Outside) -> Result<Vec<u8>, AllocError>
+/// The line `outside: NAME NUMBER` for a question outside the bounds.
+pub fn outside_line(alloc: Global, outside: Outside) -> Result<Vec<u8>, AllocError>
     ensures { IfOk result (λ text. text.items ≡ outside_text outside.name outside.number) }
 {
     let mut text = Vec::from_slice(alloc, b"outside: ")?;

@@ -73,6 +73,7 @@ fn push_made(alloc: Global, text: &mut Vec<u8>, made: Made) -> Result<(), AllocE
         Made::Constant => text.extend_from_slice(b"constant"),
         Made::Identity => text.extend_from_slice(b"identity"),
         Made::Parity => text.extend_from_slice(b"parity"),
+        Made::Niederreiter => text.extend_from_slice(b"niederreiter"),
         Made::Import(n) => push_labelled(alloc, text, b"import/", n as u64),
         Made::One(rule, _) | Made::Two(rule, _, _) => text.extend_from_slice(rule_name(rule)),
     }
@@ -111,7 +112,12 @@ fn push_parents(
             push_labelled(alloc, text, b"", place_of(found, first) as u64)?;
             push_labelled(alloc, text, b",", place_of(found, second) as u64)
         }
-        _ => text.extend_from_slice(b"-"),
+        Made::Zero
+        | Made::Constant
+        | Made::Identity
+        | Made::Parity
+        | Made::Niederreiter
+        | Made::Import(_) => text.extend_from_slice(b"-"),
     }
 }
 

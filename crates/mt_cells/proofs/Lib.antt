@@ -4,4 +4,3 @@ pub mod CellSearch
 pub mod PlaceLemmas
 pub mod PickedLemmas
 pub mod ListedLemmas
-pub mod TreeLemmas

@@ -5,7 +5,4 @@ pub mod Instances
 pub mod Places
 pub mod Propositions
 pub mod Listed
-pub mod Trees
-pub mod Values
-pub mod Closed
 pub mod Asks

@@ -54,6 +54,11 @@ pub enum Question {
     Tree(Ask),
     /// The generator matrices that the derivation makes.
     Matrix(Ask),
+    /// The values of the nets, the orthogonal arrays and the sequences over the field of q elements
+    /// with m columns.
+    Table { q: u64, m: u64 },
+    /// The values of all cells.
+    Export,
 }
 
 impl Ask {

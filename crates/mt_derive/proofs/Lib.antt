@@ -1,3 +1,5 @@
+pub mod TreeLemmas
+pub mod AxiomLemmas
 pub mod SoundLemmas
 pub mod PlaceLemmas
 pub mod NodeLemmas

@@ -9,7 +9,8 @@ use Rattle.mt_strength.specs.Statements.{Holds}
 use Rattle.mt_cells.specs.declared.bounds.Bounds.{Bounds}
 use Rattle.mt_cells.specs.declared.cells.Cell.{Cell}
 use Rattle.mt_cells.specs.declared.cells.Cell.TheVariants.{Ooa, Seq}
-use Rattle.mt_cells.specs.Trees.{Entry}
+use Rattle.mt_cells.specs.Cells.{InBounds}
+use Rattle.mt_derive.specs.Trees.{Entry}
 use Rattle.mt_derive.specs.Places.{IsAt}
 
 -- the cell of a claim of this form; a net is an array whose depth is its number of columns
@@ -31,6 +32,10 @@ AllHold L = All (λ c. IsClaim c.form c.k c.system × Holds c) L
 -- import n, counted from 1, is c
 abbrev pub IsImport : List Statement → ℕ → Statement → Type 0
 IsImport L n c = (1 ≤ n) × IsAt L (n - 1) c
+
+-- systems of cells in the bounds
+abbrev pub AllInside : Bounds → List Statement → Type 0
+AllInside b L = All (λ c. InBounds b (cell_by c.form c.system)) L
 
 -- what contracts see of `Imports`
 pub record ImportList : Type 0 where

@@ -25,7 +25,7 @@ pub struct Imports {
 
 impl Model for Imports {
     ghost use Rattle.std.specs.Prelude.{◌≡◌, ◌+◌, ◌≤◌, [], length, All};
-    ghost use Rattle.mt_derive.specs.Imports.{ImportList, digits_of, most_imports};
+    ghost use Rattle.mt_derive.specs.Imports.{ImportList, AllInside, digits_of, most_imports};
 
     ghost Value = { ImportList };
 
@@ -33,7 +33,8 @@ impl Model for Imports {
 
     ghost invariant = { λ a. (length a.list.items + length a.free.items ≡ most_imports)
         × (most_imports ≤ a.list.cap)
-        × All (λ f. (f.items ≡ []) × (digits_of a.bounds ≤ f.cap)) a.free.items };
+        × All (λ f. (f.items ≡ []) × (digits_of a.bounds ≤ f.cap)) a.free.items
+        × AllInside a.bounds a.list.items };
 }
 
 impl Imports {
@@ -66,6 +67,17 @@ impl Imports {
             unreachable!();
         };
         self.list.push_reserved(copied(claim, room));
+    }
+
+    /// A copy, with as much room.
+    pub fn copy(&self, alloc: Global) -> Result<Imports, AllocError>
+        ensures { IfOk result (λ a. a ≡ self.now) }
+    {
+        let mut imports = Imports::with_room(alloc, self.bounds)?;
+        for entry in &self.list {
+            imports.push(entry);
+        }
+        Ok(imports)
     }
 
     /// How many imports there are.

@@ -4,11 +4,11 @@
 
 mod expansions;
 pub mod laws;
-mod qualities;
+mod parameters;
 mod rows;
 mod systems;
 #[cfg(test)]
 mod tests;
 
-pub use qualities::quality;
+pub use parameters::{qualities, quality};
 pub use systems::matrices;

@@ -10,6 +10,11 @@ fn first_qualities_of_order_two(rt: HostRuntime) -> Result<(), Fail> {
     for (i, t) in wanted.iter().enumerate() {
         assert_eq!(rt; quality(alloc, Order::Q2, i as u8 + 1)?, *t);
     }
+    assert_eq!(rt;
+        qualities(alloc, Order::Q2, 8)?.as_slice(),
+        wanted.as_slice()
+    );
+    assert_eq!(rt; quality(alloc, Order::Q2, 0)?, 0);
     Ok(())
 }
 

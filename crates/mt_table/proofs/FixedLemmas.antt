@@ -4,11 +4,11 @@ use Rattle.mt_cells.specs.declared.bounds.Bounds.{Bounds}
 use Rattle.mt_cells.specs.declared.cells.Cell.{Cell}
 use Rattle.mt_cells.specs.declared.rules.RuleSet.{RuleSet}
 use Rattle.mt_cells.specs.Cells.{InBounds, number, cells_of}
-use Rattle.mt_cells.specs.Closed.{IsClosed}
-use Rattle.mt_cells.specs.Trees.{Axiom, HasAxiom, axiom_value, Entry, Tree, Concludes, IsValue}
-use Rattle.mt_cells.specs.Values.{AreValues, sum_to, IsSince}
+use Rattle.mt_derive.specs.Closed.{IsClosed}
+use Rattle.mt_derive.specs.Trees.{Axiom, Says, Entry, Tree, Concludes, IsValue}
+use Rattle.mt_derive.specs.Values.{AreValues, sum_to, IsSince}
 use Rattle.mt_cells.proofs.CellLemmas.{number_below}
-use Rattle.mt_cells.proofs.TreeLemmas.{IsValue-closed}
+use Rattle.mt_derive.proofs.TreeLemmas.{IsValue-closed}
 use Rattle.mt_table.specs.declared.work.Work.{Work}
 use Rattle.mt_derive.specs.declared.nodes.Node.{Node}
 use Rattle.mt_derive.specs.Axioms.{IsBestAxiom}
@@ -35,11 +35,11 @@ fixed v w a s = record {
     reached : (c : Cell) → InBounds w.bounds c → (t : Tree) × IsTreeOf w.nodes.list (place_in w c) t × Concludes w.bounds w.rules [] t c (value_in w c)
     reached c h = shown_tree w [] (place_in w c) c (value_in w c) shown (cell_node w c h)
 
-    held : (x : Axiom) (c : Cell) → InBounds w.bounds c → HasAxiom x c → axiom_value x c ≤ value_in w c
-    held x c h k =
+    held : (x : Axiom) (c : Cell) (k : ℕ) → InBounds w.bounds c → Says x c k → k ≤ value_in w c
+    held x c k h says =
         let i : InBounds v.bounds c = rw s.bounds at h in
         let y : (node : Node) × IsAt v.nodes.list (place_in v c) node × IsBestAxiom c node × (node.k ≡ value_in v c) = a.cells c i (number_below v.bounds c i) in
-        rw s.bounds (le_trans (rw y.3 at (y.2.greatest x k)) (s.values (number v.bounds c)))
+        rw s.bounds (le_trans (rw y.3 at (y.2.greatest x k says)) (s.values (number v.bounds c)))
 
     closed : IsClosed w.bounds w.rules [] (value_in w)
     closed = record { axioms = held; imports = λ n h i. absurd (omega arith); done = s.done }

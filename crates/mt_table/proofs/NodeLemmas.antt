@@ -1,5 +1,5 @@
 -- The node of an instance: it is right, it concludes what the instance does, and there is room for it.
-use Rattle.std.proofs.Common.{◌≡◌, ◌≢◌, ℕ, zero, suc, ◌+◌, ◌<◌, ◌≤◌, ⊎_elim, Bool, true, false, Option, Some, None, List, [], ◌∷◌, ◌++◌, length, get_or, refl, sym, ap, ◌∙◌, subst, arith, get_or-set_same, get_or-set_other, length-append, length-set}
+use Rattle.std.proofs.Common.{◌≡◌, ◌≢◌, ℕ, suc, ◌+◌, ◌<◌, ◌≤◌, ⊎_elim, Bool, true, false, Option, Some, None, List, [], ◌∷◌, ◌++◌, length, get_or, refl, sym, ap, ◌∙◌, arith, get_or-set_same, get_or-set_other, length-append, length-set}
 use Rattle.std.proofs.Math.ListN.{set}
 use Rattle.std.proofs.Math.Bridge.{le_prop}
 use Rattle.std.proofs.Math.Logic.{∥∥₁_elim, ∥∥₁_map}
@@ -12,11 +12,11 @@ use Rattle.mt_cells.specs.declared.instances.Instance.{Instance}
 use Rattle.mt_cells.specs.Cells.{InBounds, columns_of, number, cells_of}
 use Rattle.mt_cells.specs.Instances.{has_rule, IsInstance, Leads, conclusion_by, conclusion_of}
 use Rattle.mt_cells.specs.Places.{second_or}
-use Rattle.mt_cells.specs.Closed.{second_of}
-use Rattle.mt_cells.specs.Trees.{Entry, Tree, one, two, Concludes}
+use Rattle.mt_derive.specs.Closed.{second_of}
+use Rattle.mt_derive.specs.Trees.{Entry, Tree, one, two, Concludes}
 use Rattle.mt_cells.proofs.CellLemmas.{number_below, number_apart}
 use Rattle.mt_cells.proofs.PlaceLemmas.{inside}
-use Rattle.mt_cells.proofs.TreeLemmas.{conclusion_within, pair_within, conclusion_least, one_concluded, two_concluded}
+use Rattle.mt_derive.proofs.TreeLemmas.{conclusion_within, pair_within, conclusion_least, one_concluded, two_concluded}
 use Rattle.mt_derive.specs.declared.nodes.Node.{Node}
 use Rattle.mt_derive.specs.Concluded.{IsConcluded}
 use Rattle.mt_derive.specs.Nodes.{IsRight, IsRightBy, IsTreeOf, NodeList, no_node}
@@ -24,7 +24,7 @@ use Rattle.mt_derive.specs.Places.{IsAt}
 use Rattle.mt_derive.proofs.ConcludedLemmas.{place_longer, tree_longer}
 use Rattle.mt_derive.proofs.PlaceLemmas.{place_at, place_below, place_index, place_last}
 use Rattle.mt_table.specs.declared.work.Work.{Work}
-use Rattle.mt_table.specs.Shapes.{NoneBefore, sum_of, Shows, ArePlaced, AreTops, HasRoom}
+use Rattle.mt_table.specs.Shapes.{NoneBefore, sum_of, Shows, ArePlaced, HasRoom}
 use Rattle.mt_table.specs.Works.{value_in, place_in, AllShown, made_by, node_by}
 
 -- ---- the nodes of cells

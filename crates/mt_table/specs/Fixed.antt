@@ -1,7 +1,7 @@
 -- The fixed point of a table.
 use Rattle.std.specs.Prelude.{List}
-use Rattle.mt_cells.specs.Trees.{Entry}
-use Rattle.mt_cells.specs.Values.{AreValues}
+use Rattle.mt_derive.specs.Trees.{Entry}
+use Rattle.mt_derive.specs.Values.{AreValues}
 use Rattle.mt_table.specs.declared.work.Work.{Work}
 use Rattle.mt_table.specs.Works.{values_of, AllShown, IsIdle}
 

@@ -5,7 +5,7 @@ use Rattle.mt_cells.specs.declared.bounds.Bounds.{Bounds}
 use Rattle.mt_cells.specs.declared.cells.Cell.{Cell}
 use Rattle.mt_cells.specs.declared.rules.RuleSet.{RuleSet}
 use Rattle.mt_cells.specs.Cells.{columns_of, number}
-use Rattle.mt_cells.specs.Trees.{IsValue}
+use Rattle.mt_derive.specs.Trees.{IsValue}
 use Rattle.mt_derive.specs.declared.nodes.Node.{Node}
 use Rattle.mt_derive.specs.Concluded.{IsConcluded}
 use Rattle.mt_derive.specs.Imports.{entries_of}

@@ -8,8 +8,8 @@ use Rattle.mt_cells.specs.Cells.{InBounds, number, cells_of}
 use Rattle.mt_cells.specs.declared.lines.Line.{Line}
 use Rattle.mt_cells.specs.Instances.{IsInstance, HasParent}
 use Rattle.mt_cells.specs.Places.{IsPlace, IsRightLine, instance_at}
-use Rattle.mt_cells.specs.Closed.{second_of, IsDone}
-use Rattle.mt_cells.specs.Trees.{Entry}
+use Rattle.mt_derive.specs.Closed.{second_of, IsDone}
+use Rattle.mt_derive.specs.Trees.{Entry}
 use Rattle.mt_derive.specs.declared.nodes.Made.{Made}
 use Rattle.mt_derive.specs.declared.nodes.Made.TheVariants as made
 use Rattle.mt_cells.specs.declared.rules.Rule.{Rule}
@@ -138,3 +138,12 @@ pub record Settles (v w : Work) : Type 0 where
   pub shown : (L : List Entry) → AllShown v L → AllShown w L
   pub done : AllDone w
   pub idle : IsIdle w
+
+-- w is as v
+pub record IsCopy (v w : Work) : Type 0 where
+  pub bounds : w.bounds ≡ v.bounds
+  pub rules : w.rules ≡ v.rules
+  pub values : w.values.items ≡ v.values.items
+  pub places : w.places.items ≡ v.places.items
+  pub nodes : w.nodes ≡ v.nodes
+  pub flags : w.flags.items ≡ v.flags.items

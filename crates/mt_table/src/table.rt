@@ -39,8 +39,8 @@ impl Model for Table {
 impl Table {
     ghost use Rattle.std.specs.Prelude.{◌≡◌, ◌<◌, ℕ, [], length, IfOk};
     ghost use Rattle.mt_cells.specs.Cells.{InBounds};
-    ghost use Rattle.mt_cells.specs.Trees.{IsValue};
-    ghost use Rattle.mt_cells.specs.Values.{IsScore, IsSince};
+    ghost use Rattle.mt_derive.specs.Trees.{IsValue};
+    ghost use Rattle.mt_derive.specs.Values.{IsScore, IsSince};
     ghost use Rattle.mt_derive.specs.Concluded.{AllConclude};
     ghost use Rattle.mt_derive.specs.Imports.{entries_of};
     ghost use Rattle.mt_table.specs.Tables.{place_of, IsServed};
@@ -60,6 +60,16 @@ impl Table {
         let imports = Imports::with_room(alloc, bounds)?;
         let mut work = Work::new(alloc, bounds, rules)?;
         work.settle(steps);
+        Ok(Table { work, imports })
+    }
+
+    /// A copy of the table, with as much room. It takes all its room at once, or refuses with
+    /// `AllocError`.
+    pub fn copy(&self, alloc: Global) -> Result<Table, AllocError>
+        ensures { IfOk result (λ t. t ≡ self.now) }
+    {
+        let imports = self.imports.copy(alloc)?;
+        let work = self.work.copy(alloc)?;
         Ok(Table { work, imports })
     }
 

@@ -40,23 +40,29 @@ fn greatest_values(rt: HostRuntime) -> Result<(), Fail> {
     assert_eq!(rt; table.value(array(3, 4, 1)), 3);
     assert_eq!(rt; table.value(array(3, 1, 2)), 3);
     assert_eq!(rt; table.value(array(3, 3, 1)), 3);
-    assert_eq!(rt; table.value(array(3, 3, 3)), 1);
     // a (u,u+v) system
     assert_eq!(rt; table.value(array(4, 8, 1)), 3);
     Ok(())
+}
+
+fn sequence(order: Order, m: u8, s: u8) -> Cell
+    ensures { result ≡ Cell.Seq order m s }
+{
+    Cell::Seq { order, m, s }
 }
 
 #[test]
 fn values_of_sequences(rt: HostRuntime) -> Result<(), Fail> {
     let bounds = Bounds::new(4, 8).ok_or("none")?;
     let table = table_of::<Brand>(rt.alloc(), bounds, Blank::new(1))?;
-    let cell = Cell::Seq {
-        order: Order::Q2,
-        m: 3,
-        s: 1,
-    };
-    assert_eq!(rt; table.value(cell), 0);
-    assert_eq!(rt; table.since(cell), 0);
+    // m less the sum of the degrees less 1 of irreducible polynomials
+    assert_eq!(rt; table.value(sequence(Order::Q2, 4, 3)), 3);
+    assert_eq!(rt; table.value(sequence(Order::Q2, 4, 4)), 1);
+    assert_eq!(rt; table.value(sequence(Order::Q2, 4, 5)), 0);
+    assert_eq!(rt; table.value(sequence(Order::Q9, 4, 8)), 4);
+    // their nets
+    assert_eq!(rt; table.value(array(3, 3, 3)), 3);
+    assert_eq!(rt; table.since(sequence(Order::Q2, 4, 3)), 0);
     assert_eq!(rt; table.version(), 0);
     assert_eq!(rt; table.bounds(), bounds);
     assert_eq!(rt; table.imports().len(), 0);
@@ -64,10 +70,23 @@ fn values_of_sequences(rt: HostRuntime) -> Result<(), Fail> {
 }
 
 #[test]
+fn copy_of_a_table(rt: HostRuntime) -> Result<(), Fail> {
+    let bounds = Bounds::new(4, 8).ok_or("none")?;
+    let table = table_of::<Brand>(rt.alloc(), bounds, Blank::new(1))?;
+    let copy = table.copy(rt.alloc())?;
+    assert_eq!(rt; table.value(array(3, 3, 3)), 3);
+    assert_eq!(rt; copy.value(array(3, 3, 3)), 3);
+    assert_eq!(rt; copy.score(), table.score());
+    assert_eq!(rt; copy.nodes().len(), table.nodes().len());
+    Ok(())
+}
+
+#[test]
 fn least_table(rt: HostRuntime) -> Result<(), Fail> {
     let bounds = Bounds::new(1, 1).ok_or("none")?;
     let table = table_of::<Brand>(rt.alloc(), bounds, Blank::new(1))?;
-    assert_eq!(rt; table.score(), 7);
+    // each of the seven arrays and seven sequences
+    assert_eq!(rt; table.score(), 14);
     Ok(())
 }
 

@@ -4,7 +4,7 @@ ghost use Rattle.mt_cells.specs.Cells.{cells_of};
 ghost use Rattle.mt_table.specs.Shapes.{IsShaped, NoneBefore, ArePlaced, ArePlaced-prop, HasRoom, AreTops, sum_of};
 
 use mt_cells::{Bounds, Cell, Instance, Line, RuleSet, Stage, Steps, conclude, lines_of_parent};
-use mt_derive::{Made, Node, Nodes, axiom_node};
+use mt_derive::{Axioms, Made, Node, Nodes};
 use std::alloc::{AllocError, Global};
 use std::sync::ledger::Ledger;
 
@@ -41,11 +41,11 @@ fn room_of(bounds: Bounds) -> u32
 impl Work {
     ghost use Rattle.std.specs.Prelude.{◌<◌, ◌≤◌, IfOk, IfSome, IfNone};
     ghost use Rattle.mt_cells.specs.Cells.{InBounds, columns_of};
-    ghost use Rattle.mt_cells.specs.Closed.{second_of};
+    ghost use Rattle.mt_derive.specs.Closed.{second_of};
     ghost use Rattle.mt_cells.specs.Instances.{IsInstance, conclusion_of};
-    ghost use Rattle.mt_cells.specs.Values.{sum_to};
+    ghost use Rattle.mt_derive.specs.Values.{sum_to};
     ghost use Rattle.mt_table.specs.Works.{values_of, value_in, place_in, made_of, AreAxioms, AllSettled, IsSettled, IsLineOf, LineSettled};
-    ghost use Rattle.mt_table.specs.Works.{ParentSettled, Grows, IsRaised, IsTaken, IsOver, Settles};
+    ghost use Rattle.mt_table.specs.Works.{IsCopy, ParentSettled, Grows, IsRaised, IsTaken, IsOver, Settles};
 
     // The values of the axioms. All cells wait.
     pub(crate) fn new(alloc: Global, bounds: Bounds, rules: RuleSet) -> Result<Work, AllocError>
@@ -56,12 +56,13 @@ impl Work {
         ensures settled { IfOk result AllSettled }
     {
         let cells = bounds.cells() as usize;
+        let axioms = Axioms::new(alloc, bounds)?;
         let mut nodes = Nodes::with_room(alloc, room_of(bounds))?;
         let mut values = Vec::with_capacity(alloc, cells)?;
         let mut places = Vec::with_capacity(alloc, cells)?;
         let mut flags = Vec::with_capacity(alloc, cells)?;
         for n in 0..bounds.cells() {
-            let node = axiom_node(alloc, bounds, Cell::at(bounds, n))?;
+            let node = axioms.node(Cell::at(bounds, n));
             nodes.push(node);
             values.push_reserved(node.k);
             places.push_reserved(n);
@@ -75,6 +76,21 @@ impl Work {
             nodes,
             flags,
             from: 0,
+        })
+    }
+
+    // A copy, with as much room.
+    pub(crate) fn copy(&self, alloc: Global) -> Result<Work, AllocError>
+        ensures { IfOk result (IsCopy self.now) }
+    {
+        Ok(Work {
+            bounds: self.bounds,
+            rules: self.rules,
+            values: self.values.clone()?,
+            places: self.places.clone()?,
+            nodes: self.nodes.copy(alloc)?,
+            flags: self.flags.clone()?,
+            from: self.from,
         })
     }
 

@@ -1,8 +1,7 @@
-use Rattle.std.proofs.Common.{◌≡◌, ◌<◌, length, get_or, refl, sym, ap, ◌∙◌, arith, add-one}
+use Rattle.std.proofs.Common.{◌≡◌, ◌<◌, length, get_or, refl, sym, ◌∙◌, arith, add-one}
 use Rattle.std.proofs.lemmas.List.{get_or_read}
 use Rattle.mt_derive.specs.Nodes.{no_node}
 use Rattle.mt_derive.proofs.PlaceLemmas.{place_index}
-use Rattle.mt_answer.specs.Texts.{node_text}
 use Rattle.mt_answer.proofs.PlaceLemmas.{no_lines, one_line, found_below}
 use Rattle.mt_answer.proofs.trees.tree_lines.Goals as goal
 

@@ -6,7 +6,7 @@ use Rattle.mt_poly.specs.declared.polynomials.Poly.{Poly}
 use Rattle.mt_poly.specs.Polynomials.{IsMember}
 use Rattle.mt_niederreiter.specs.Rows.{AreRows}
 use Rattle.mt_niederreiter.proofs.StepLemmas.{system_rows}
-use Rattle.mt_niederreiter.proofs.MatrixLemmas.{matrices_of, own_list}
+use Rattle.mt_niederreiter.proofs.MatrixLemmas.{matrices_strength}
 use Rattle.mt_niederreiter.proofs.systems.matrices.Goals as goal
 
 pub push_rows-requires-clause-members : goal.push_rows-requires-clause-members
@@ -26,8 +26,13 @@ returns-clause-rows c =
     let count : c.loop-coordinate.coordinate ≡ c.args.s = omega (arith, c.in_ok-list.ensures.size) in
     let rows : AreRows o c.args.m ps (c.args.s * c.args.m) c.loop-coordinate.digits.items =
     subst (λ n. AreRows o c.args.m ps (n * c.args.m) c.loop-coordinate.digits.items) count c.loop-coordinate.invariant in
-    matrices_of o c.args.m c.args.s ps c.in-Ok.system c.requires.columns c.requires.coordinates size c.in_ok-list.ensures.list
-    (system_rows o c.args.m c.args.s ps c.loop-coordinate.digits.items c.in-Ok.system c.in-Ok.ensures size rows)
+    record {
+      polynomials = ps;
+      count = size;
+      list = c.in_ok-list.ensures.list;
+      rows = system_rows o c.args.m c.args.s ps c.loop-coordinate.digits.items c.in-Ok.system c.in-Ok.ensures size rows;
+    }
 
 pub returns-clause-strength : goal.returns-clause-strength
-returns-clause-strength c = own_list c.args.order c.args.m c.args.s c.in-Ok.system (returns-clause-rows c)
+returns-clause-strength c = λ t.
+    matrices_strength c.args.order c.args.m c.args.s t c.in-Ok.system c.requires.columns c.requires.coordinates (returns-clause-rows c)
