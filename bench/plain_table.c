@@ -93,6 +93,29 @@ static void try_sequence(int order, int m, int s) {
     if (s < s_max) raise_to(array_number(order, m, s + 1, m), k);
 }
 
+/* How many monic irreducible polynomials of degree d there are over a field of q elements (Gauss). */
+static long irreducible(int q, int d) {
+    long words = 1;
+    for (int i = 0; i < d; i++) words *= q;
+    for (int e = 1; e < d; e++)
+        if (d % e == 0) words -= e * irreducible(q, e);
+    return words / d;
+}
+
+/* The axioms of sequences: m less the sum of the degrees less 1 of the first s irreducible
+   polynomials, which are the polynomials that are coprime to all before them. */
+static void start_sequences(int order) {
+    int degree = 1, quality = 0;
+    long left = irreducible(orders[order], 1);
+    for (int s = 1; s <= s_max; s++) {
+        while (left == 0) left = irreducible(orders[order], ++degree);
+        left--;
+        quality += degree - 1;
+        for (int m = 1; m <= m_max; m++)
+            values[sequence_number(order, m, s)] = quality < m ? m - quality : 0;
+    }
+}
+
 static void try_cell(int n) {
     int order = n / per_order, rest = n % per_order, m = 1;
     if (rest >= arrays) {
@@ -115,6 +138,7 @@ int main(int count, char **words) {
     waits = malloc(cells);
     if (!values || !waits) return 1;
     memset(waits, 1, cells);
+    for (int order = 0; order < ORDERS; order++) start_sequences(order);
     for (int order = 0; order < ORDERS; order++)
         for (int m = 1; m <= m_max; m++)
             for (int s = 1; s <= s_max; s++)
