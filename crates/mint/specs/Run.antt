@@ -1,7 +1,7 @@
 -- What a command answers.
 use Rattle.std.specs.Prelude.{◌≡◌, ◌≢◌, ℕ, ◌-◌, true, List, [], cond, Option}
 use Rattle.mt_linear.specs.declared.Order.{Order}
-use Rattle.mt_system.specs.Rows.{Matrices}
+use Rattle.mt_system.specs.Rows.{Matrices, SequenceStrength}
 use Rattle.mt_niederreiter.specs.Matrices.{IsMatricesOf, IsQuality}
 use Rattle.mt_cells.specs.declared.bounds.Bounds.{Bounds}
 use Rattle.mt_cells.specs.declared.rules.Rule.{Rule}
@@ -65,12 +65,13 @@ pub record IsAnswered (b : Bounds) (question : Question) (status : Status) (outp
 abbrev pub sequence_ask : ℕ → ℕ → ℕ → Ask
 sequence_ask q m s = record { kind = kind.Seq; q = q; m = m; s = s; depth = 0 }
 
--- the import text of Niederreiter's matrices, which claims their quality parameter, or m where that is less
+-- the import text of Niederreiter's matrices, which claims their quality parameter, or m where that is less; they have it
 pub record IsSequenceText (o : Order) (m s : ℕ) (output : List ℕ) : Type 0 where
   pub system : Matrices
   pub made : IsMatricesOf o m s system
   pub t : ℕ
   pub quality : IsQuality o s t
+  pub strength : SequenceStrength system (m - t)
   pub output_is : output ≡ sequence_text (m - t) system
 
 -- the status and the output for Niederreiter's matrices of these sizes

@@ -22,5 +22,5 @@ returns c =
     let told : statement_of c.in-Some-new.claim ≡ record { form = Seq; name = codes "niederreiter"; k = c.args.m - quality.0; system = c.in_ok-system.system } =
     cc (c.in-Some-new.ensures.form, c.in-Some-new.ensures.name, c.in-Some.ensures.value, c.in-Some-new.ensures.strength, strength, c.in-Some-new.ensures.system) in
     IfOk-weaker c.print_import.result _ (λ text. IsSequenceText c.args.order c.args.m c.args.s text.items)
-    (λ text e. record { system = c.in_ok-system.system; made = c.in_ok-system.ensures.rows; t = quality.0; quality = quality.1; output_is = e ∙ ap canonical_text told })
+    (λ text e. record { system = c.in_ok-system.system; made = c.in_ok-system.ensures.rows; t = quality.0; quality = quality.1; strength = c.in_ok-system.ensures.strength quality.0 quality.1; output_is = e ∙ ap canonical_text told })
     c.print_import.ensures.text
