@@ -8,7 +8,7 @@
 # MINT names another program to run, from the top of the repository.
 cd "$(dirname "$0")/.." || exit 1
 mint=${MINT:-./mint}
-"$mint" :memory: - 4,8 check <examples/hamming.txt >/dev/null || exit 1
+"$mint" :memory: - 1,1 export >/dev/null || exit 1
 
 exec python3 - "$mint" <<'PYTHON'
 import subprocess, sys, time

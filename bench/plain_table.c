@@ -1,5 +1,5 @@
-/* The plain program beside mint's table: it computes the same greatest values with a work list and
-   answers one question for a net. It writes the number of its conclusions to standard error.
+/* The plain program beside mint's table: it computes the same greatest values with a work list, from
+   which it takes the sequences first, and answers one question for a net. It writes the number of its conclusions to standard error.
    Usage: plain_table M S Q NET_M NET_S */
 #include <stdio.h>
 #include <stdlib.h>
@@ -144,6 +144,11 @@ int main(int count, char **words) {
             for (int s = 1; s <= s_max; s++)
                 for (int depth = 1; depth <= m; depth++)
                     values[array_number(order, m, s, depth)] = greatest_axiom(m, s, depth);
+    for (int n = 0; n < cells; n++) {
+        if (n % per_order < arrays) continue;
+        waits[n] = 0;
+        try_cell(n);
+    }
     while (from < cells) {
         if (!waits[from]) {
             from++;

@@ -1,9 +1,9 @@
 #!/usr/bin/env bash
 # Time mint's answer to `16,32 value net 2 10 4`, for which it computes the whole table, beside a
 # plain C program that computes the same greatest values, and compare their answers.
-# Prints the milliseconds (median of 5 runs in turn, the start of the process included) and the
-# kilobytes of memory of both, the number of conclusions that the plain one draws, and the ratio of
-# the times; ends with status 1 if the answers differ.
+# Prints the milliseconds (median of 5 runs in turn, the start of the process included) and, where
+# /usr/bin/time is there, the kilobytes of memory of both, the number of conclusions that the plain
+# one draws, and the ratio of the times; ends with status 1 if the answers differ.
 # MINT names another program to run, from the top of the repository; CC a compiler.
 cd "$(dirname "$0")/.." || exit 1
 mint=${MINT:-./mint}
@@ -24,16 +24,18 @@ exec python3 - "$mint" "$work/plain" <<'PYTHON'
 import os, subprocess, sys, time
 
 def run(words):
-    """What the program prints, its milliseconds, its greatest size in kilobytes, its errors."""
+    """What the program prints, its milliseconds, its errors."""
     start = time.perf_counter()
-    child = subprocess.Popen(
-        words, stdin=subprocess.DEVNULL, stdout=subprocess.PIPE, stderr=subprocess.PIPE
-    )
-    text, told = child.stdout.read().decode(), child.stderr.read().decode()
-    _, status, usage = os.wait4(child.pid, 0)
-    elapsed = (time.perf_counter() - start) * 1000
-    child.returncode = os.waitstatus_to_exitcode(status)
-    return text, elapsed, usage.ru_maxrss, told
+    ended = subprocess.run(words, stdin=subprocess.DEVNULL, capture_output=True, text=True)
+    return ended.stdout, (time.perf_counter() - start) * 1000, ended.stderr
+
+def size(words):
+    """The greatest size of the program in kilobytes: that of a process that no larger one starts."""
+    if not os.access("/usr/bin/time", os.X_OK):
+        return "?"
+    timed = ["/usr/bin/time", "-f", "%M"] + words
+    ended = subprocess.run(timed, stdin=subprocess.DEVNULL, capture_output=True, text=True)
+    return ended.stderr.split()[-1]
 
 mint, plain = sys.argv[1:]
 question = ["net", "2", "10", "4"]
@@ -50,8 +52,8 @@ if answers["mint"] != answers["plain"]:
     print(f"the answers differ: mint {answers['mint']!r}, plain {answers['plain']!r}")
     sys.exit(1)
 times = {name: sorted(run[1] for run in found)[2] for name, found in runs.items()}
-sizes = {name: max(run[2] for run in found) for name, found in runs.items()}
-conclusions = int(runs["plain"][0][3])
+sizes = {name: size(words) for name, words in commands.items()}
+conclusions = int(runs["plain"][0][2])
 print(
     f"table: mint {times['mint']:.1f} ms and {sizes['mint']} kB,"
     f" plain {times['plain']:.1f} ms and {sizes['plain']} kB for {conclusions} conclusions,"

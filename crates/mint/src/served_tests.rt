@@ -17,8 +17,8 @@ fn derivations_as_they_are_shown(rt: HostRuntime) -> Result<(), Fail> {
             b"1 parity - ooa 2 3 4 1 k 3\n",
         ),
         (
-            &["3,4", "tree", "oa", "2", "3", "3"],
-            b"1 parity - ooa 2 3 4 1 k 3\n2 fewer 1 ooa 2 3 3 1 k 3\n",
+            &["3,4", "tree", "net", "2", "3", "3"],
+            b"1 niederreiter - seq 2 3 2 k 3\n2 seq_to_net 1 ooa 2 3 3 3 k 3\n",
         ),
         (
             &["4,8", "tree", "ooa", "3", "4", "1", "3"],

@@ -116,8 +116,8 @@ pub(crate) fn assert_answers(
 }
 
 #[test]
-fn questions_get_their_values(rt: HostRuntime) -> Result<(), Fail> {
-    let cases: [(&[&str], &[u8]); 13] = [
+fn nets_get_their_values(rt: HostRuntime) -> Result<(), Fail> {
+    let cases: [(&[&str], &[u8]); 7] = [
         (
             &["4,8", "value", "net", "2", "3", "1"],
             b"net 2 3 1: k 3, t 0, since 0, version 0\n",
@@ -143,6 +143,17 @@ fn questions_get_their_values(rt: HostRuntime) -> Result<(), Fail> {
             b"net 3 2 4: k 2, t 0, since 0, version 0\n",
         ),
         (
+            &["16,32", "value", "net", "2", "10", "4"],
+            b"net 2 10 4: k 9, t 1, since 0, version 0\n",
+        ),
+    ];
+    assert_answers(&rt, rt.alloc(), Status::Ok, &cases)
+}
+
+#[test]
+fn arrays_and_sequences_get_their_values(rt: HostRuntime) -> Result<(), Fail> {
+    let cases: [(&[&str], &[u8]); 6] = [
+        (
             &["4,8", "value", "oa", "2", "3", "3"],
             b"oa 2 3 3: k 3, t 0, since 0, version 0\n",
         ),
@@ -161,10 +172,6 @@ fn questions_get_their_values(rt: HostRuntime) -> Result<(), Fail> {
         (
             &["4,8", "value", "seq", "2", "4", "3"],
             b"seq 2 4 3: k 3, t 1, since 0, version 0\n",
-        ),
-        (
-            &["16,32", "value", "net", "2", "10", "4"],
-            b"net 2 10 4: k 9, t 1, since 0, version 0\n",
         ),
         (
             &["16,32", "value", "ooa", "9", "16", "32", "7"],

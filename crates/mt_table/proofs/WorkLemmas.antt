@@ -15,7 +15,7 @@ use Rattle.mt_cells.proofs.PlaceLemmas.{inside}
 use Rattle.mt_derive.proofs.ConcludedLemmas.{conclude_push}
 use Rattle.mt_table.specs.declared.work.Work.{Work}
 use Rattle.mt_table.specs.Shapes.{sum_of}
-use Rattle.mt_table.specs.Works.{value_in, AllShown, AllDone, IsFlagged, IsIdle, IsSettled, AllSettled, waiting, Grows, node_by, IsRaised, IsTaken, IsOver, Settles}
+use Rattle.mt_table.specs.Works.{value_in, AllShown, AllDone, IsFlagged, IsIdle, IsSettled, AllSettled, waiting, Grows, node_by, IsRaised, IsTaken, IsOver, Rises, Settles}
 use Rattle.mt_table.proofs.NodeLemmas.{node_concludes}
 
 -- ---- growth
@@ -193,13 +193,6 @@ measure_falls v u w n t g =
     let s : length w.values.items ≡ cells_of w.bounds = w.shaped.0 in
     let e : cells_of w.bounds ≡ cells_of v.bounds = ap cells_of (g.bounds ∙ t.bounds) in
     omega arith
-
--- what a settling has done so far
-pub record Rises (v w : Work) : Type 0 where
-  pub bounds : w.bounds ≡ v.bounds
-  pub rules : w.rules ≡ v.rules
-  pub values : (n : ℕ) → get_or v.values.items n 0 ≤ get_or w.values.items n 0
-  pub shown : (L : List Entry) → AllShown v L → AllShown w L
 
 pub rises_step : (o v u w : Work) (n : ℕ) → Rises o v → IsTaken v u n → Grows u w → Rises o w
 rises_step o v u w n r t g = record {

@@ -130,6 +130,13 @@ pub record IsOver (v w : Work) : Type 0 where
   pub flags : w.flags.items ≡ v.flags.items
   pub idle : IsIdle w
 
+-- what a settling has done so far
+pub record Rises (v w : Work) : Type 0 where
+  pub bounds : w.bounds ≡ v.bounds
+  pub rules : w.rules ≡ v.rules
+  pub values : (n : ℕ) → get_or v.values.items n 0 ≤ get_or w.values.items n 0
+  pub shown : (L : List Entry) → AllShown v L → AllShown w L
+
 -- all instances were tried until none rose
 pub record Settles (v w : Work) : Type 0 where
   pub bounds : w.bounds ≡ v.bounds

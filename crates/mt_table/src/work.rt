@@ -39,13 +39,13 @@ fn room_of(bounds: Bounds) -> u32
 }
 
 impl Work {
-    ghost use Rattle.std.specs.Prelude.{◌<◌, ◌≤◌, IfOk, IfSome, IfNone};
+    ghost use Rattle.std.specs.Prelude.{◌<◌, ◌≤◌, false, IsTrue, IfOk, IfSome, IfNone};
     ghost use Rattle.mt_cells.specs.Cells.{InBounds, columns_of};
     ghost use Rattle.mt_derive.specs.Closed.{second_of};
     ghost use Rattle.mt_cells.specs.Instances.{IsInstance, conclusion_of};
     ghost use Rattle.mt_derive.specs.Values.{sum_to};
     ghost use Rattle.mt_table.specs.Works.{values_of, value_in, place_in, made_of, AreAxioms, AllSettled, IsSettled, IsLineOf, LineSettled};
-    ghost use Rattle.mt_table.specs.Works.{IsCopy, ParentSettled, Grows, IsRaised, IsTaken, IsOver, Settles};
+    ghost use Rattle.mt_table.specs.Works.{IsCopy, ParentSettled, Grows, IsRaised, IsTaken, IsOver, Rises, Settles};
 
     // The values of the axioms. All cells wait.
     pub(crate) fn new(alloc: Global, bounds: Bounds, rules: RuleSet) -> Result<Work, AllocError>
@@ -258,11 +258,40 @@ impl Work {
         }
     }
 
+    // Takes the cell of this number, if it waits.
+    fn take_at(&mut self, n: u32) -> bool
+        requires { n < cells_of self.old.bounds }
+        ensures taken { IsTrue result → IsTaken self.old self.new n }
+        ensures unchanged { result ≡ false → self.new ≡ self.old }
+    {
+        if !self.flags[n as usize] {
+            return false;
+        }
+        self.flags[n as usize] = false;
+        true
+    }
+
+    // Tries the instances of the sequences that wait, so that arrays start from what these give: in
+    // the order of cells they come after the arrays, whose instances would be tried over again.
+    fn settle_sequences<L: Ledger>(&mut self, steps: &mut Steps<L>)
+        requires { AllSettled self.old }
+        ensures settled { AllSettled self.new }
+        ensures rises { Rises self.old self.new }
+    {
+        for n in 0..self.bounds.cells() {
+            let cell = Cell::at(self.bounds, n);
+            if matches!(cell, Cell::Seq { .. }) && self.take_at(n) {
+                self.try_all(cell, steps);
+            }
+        }
+    }
+
     // Tries the instances of cells that wait until none does.
     pub(crate) fn settle<L: Ledger>(&mut self, steps: &mut Steps<L>)
         requires { AllSettled self.old }
         ensures { Settles self.old self.new }
     {
+        self.settle_sequences(steps);
         while let Some(n) = self.take() {
             let cell = Cell::at(self.bounds, n);
             self.try_all(cell, steps);

@@ -1,5 +1,5 @@
-use Rattle.mt_table.specs.Works.{AllSettled}
-use Rattle.mt_table.proofs.WorkLemmas.{measure, Rises}
+use Rattle.mt_table.specs.Works.{AllSettled, Rises}
+use Rattle.mt_table.proofs.WorkLemmas.{measure}
 use Rattle.mt_table.proofs.work.Work.settle.Given as goal
 
 abbrev pub invariant-loop-n : goal.invariant-loop-n
