@@ -1,6 +1,7 @@
 /* The plain program beside mint's table: it computes the same greatest values with a work list, from
-   which it takes the sequences first, and answers one question for a net. It writes the number of its conclusions to standard error.
-   Usage: plain_table M S Q NET_M NET_S */
+   which it takes the sequences first, and answers one question for a net, or prints them all. It
+   writes the number of its conclusions to standard error.
+   Usage: plain_table M S Q NET_M NET_S, or plain_table M S */
 #include <stdio.h>
 #include <stdlib.h>
 #include <string.h>
@@ -127,8 +128,23 @@ static void try_cell(int n) {
     try_array(order, m, rest / m + 1, rest % m + 1);
 }
 
+static void print_all(void) {
+    puts("kind,q,m,s,depth,k,since");
+    for (int order = 0; order < ORDERS; order++) {
+        int q = orders[order];
+        for (int m = 1; m <= m_max; m++)
+            for (int s = 1; s <= s_max; s++)
+                for (int depth = 1; depth <= m; depth++)
+                    printf("ooa,%d,%d,%d,%d,%d,0\n", q, m, s, depth,
+                           values[array_number(order, m, s, depth)]);
+        for (int m = 1; m <= m_max; m++)
+            for (int s = 1; s <= s_max; s++)
+                printf("seq,%d,%d,%d,%d,%d,0\n", q, m, s, m, values[sequence_number(order, m, s)]);
+    }
+}
+
 int main(int count, char **words) {
-    if (count != 6) return 2;
+    if (count != 6 && count != 3) return 2;
     m_max = atoi(words[1]);
     s_max = atoi(words[2]);
     arrays = s_max * (m_max * (m_max + 1) / 2);
@@ -158,6 +174,10 @@ int main(int count, char **words) {
         try_cell(from);
     }
     fprintf(stderr, "%ld\n", conclusions);
+    if (count == 3) {
+        print_all();
+        return 0;
+    }
     int q = atoi(words[3]), m = atoi(words[4]), s = atoi(words[5]), order = 0;
     while (order < ORDERS && orders[order] != q) order++;
     if (order == ORDERS || m < 1 || m > m_max || s < 1 || s > s_max) return 8;

@@ -1,6 +1,7 @@
 #!/usr/bin/env bash
 # Time mint's answer to `16,32 value net 2 10 4`, for which it computes the whole table, beside a
-# plain C program that computes the same greatest values, and compare their answers.
+# plain C program that computes the same greatest values, and compare their answers and the values of
+# all cells, as mint exports them.
 # Prints the milliseconds (median of 5 runs in turn, the start of the process included) and, where
 # /usr/bin/time is there, the kilobytes of memory of both, the number of conclusions that the plain
 # one draws, and the ratio of the times; ends with status 1 if the answers differ.
@@ -50,6 +51,10 @@ for _ in range(5):
 answers = {name: found[0][0] for name, found in runs.items()}
 if answers["mint"] != answers["plain"]:
     print(f"the answers differ: mint {answers['mint']!r}, plain {answers['plain']!r}")
+    sys.exit(1)
+exports = [run([mint, ":memory:", "-", "16,32", "export"])[0], run([plain, "16", "32"])[0]]
+if exports[0] != exports[1]:
+    print("the values of the cells differ")
     sys.exit(1)
 times = {name: sorted(run[1] for run in found)[2] for name, found in runs.items()}
 sizes = {name: size(words) for name, words in commands.items()}
