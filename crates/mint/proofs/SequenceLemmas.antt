@@ -2,7 +2,7 @@
 use Rattle.std.proofs.Common.{ℕ, ◌≤◌, [], codes, refl, sym, ◌∙◌, arith}
 use Rattle.std.specs.Prelude.{Contains}
 use Rattle.std.proofs.lemmas.List.Elements.{All-cons, All-nil}
-use Rattle.mt_linear.specs.declared.Order.{Order}
+use Rattle.mt_linear.specs.declared.order.Order.{Order}
 use Rattle.mt_system.specs.declared.claims.Form.TheVariants.{Seq}
 use Rattle.mt_system.specs.Claims.{name_characters, IsName, IsClaim}
 use Rattle.mt_system.specs.Rows.{Matrices}

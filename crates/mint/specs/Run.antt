@@ -1,6 +1,6 @@
 -- What a command answers.
 use Rattle.std.specs.Prelude.{◌≡◌, ◌≢◌, ℕ, ◌-◌, true, List, [], cond, Option}
-use Rattle.mt_linear.specs.declared.Order.{Order}
+use Rattle.mt_linear.specs.declared.order.Order.{Order}
 use Rattle.mt_system.specs.Rows.{Matrices, SequenceStrength}
 use Rattle.mt_niederreiter.specs.Matrices.{IsMatricesOf, IsQuality}
 use Rattle.mt_cells.specs.declared.bounds.Bounds.{Bounds}

@@ -2,7 +2,7 @@
 use Rattle.std.proofs.Common.{◌≡◌, ℕ, ◌≤◌, List, [], codes, refl, sym, ◌∙◌, subst, arith}
 use Rattle.std.proofs.lemmas.List.Elements.{All-nil, All-cons}
 use Rattle.std.specs.Prelude.{Contains}
-use Rattle.mt_linear.specs.declared.Order.{Order}
+use Rattle.mt_linear.specs.declared.order.Order.{Order}
 use Rattle.mt_system.specs.Rows.{Matrices}
 use Rattle.mt_system.specs.Claims.{name_characters, IsName, IsClaim}
 use Rattle.mt_cells.specs.declared.bounds.Bounds.{Bounds}

@@ -1,7 +1,7 @@
 -- What a table answers.
 use Rattle.std.specs.Prelude.{◌≡◌, ℕ, List, length, Contains}
 use Rattle.std.specs.Bool.{MatchBool}
-use Rattle.mt_linear.specs.declared.Order.{Order}
+use Rattle.mt_linear.specs.declared.order.Order.{Order}
 use Rattle.mt_linear.specs.Field.{number_of}
 use Rattle.mt_system.specs.Rows.{Matrices}
 use Rattle.mt_cells.specs.declared.bounds.Bounds.{Bounds}

@@ -14,7 +14,7 @@ use Rattle.mt_cells.specs.declared.lines.Stage.{Stage}
 use Rattle.mt_cells.specs.declared.lines.Stage.TheVariants as stage
 use Rattle.mt_cells.specs.declared.lines.Line.{Line}
 use Rattle.mt_cells.specs.declared.lines.Lines.{Lines}
-use Rattle.mt_linear.specs.declared.Order.{Order}
+use Rattle.mt_linear.specs.declared.order.Order.{Order}
 use Rattle.mt_linear.specs.Field.{number_of}
 use Rattle.mt_cells.specs.Cells.{InBounds, order_of}
 use Rattle.mt_cells.specs.Rules.{HasTarget, HasPairTarget}

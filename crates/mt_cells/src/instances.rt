@@ -10,7 +10,7 @@ use crate::bounds::Bounds;
 use crate::cells::Cell;
 use crate::lines::{Line, Lines, Stage, lines_of_parent};
 use crate::rules::{Rule, RuleSet};
-use crate::steps::Steps;
+use mt_linear::Steps;
 use mt_linear::Order;
 use std::marker::Model;
 use std::sync::ledger::Ledger;

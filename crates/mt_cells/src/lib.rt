@@ -10,7 +10,6 @@ mod instances;
 pub mod laws;
 mod lines;
 mod rules;
-mod steps;
 #[cfg(test)]
 mod tests;
 
@@ -20,4 +19,4 @@ pub use cells::Cell;
 pub use instances::{Instance, Instances, conclude, fan, instances_of_parent};
 pub use lines::{Line, Lines, Stage, lines_of_parent};
 pub use rules::{Rule, RuleSet};
-pub use steps::Steps;
+pub use mt_linear::Steps;

@@ -4,7 +4,7 @@ use Rattle.std.specs.List.{sum_by}
 use Rattle.std.proofs.lemmas.Bool.{cases_eq, cases_lt, cond-true, cond-false, eq-eqb, ne_eqb}
 use Rattle.std.proofs.lemmas.List.Sums.{sum_by-cons}
 use Rattle.std.proofs.lemmas.Nat.{mod_below}
-use Rattle.mt_linear.specs.declared.Order.{Order}
+use Rattle.mt_linear.specs.declared.order.Order.{Order}
 use Rattle.mt_linear.specs.Field.{number_of, mul_of}
 use Rattle.mt_linear.proofs.Abstract.{Ops, HasFieldLaws, Digit, digit, field_of, field_laws, sum_of, sum_null, sum_cong, null_add, mul_null}
 use Rattle.mt_linear.proofs.Sums.{null_mul, sum_split}

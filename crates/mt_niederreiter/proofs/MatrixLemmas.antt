@@ -2,7 +2,7 @@
 use Rattle.std.proofs.Common.{◌≡◌, ℕ, ◌+◌, ◌-◌, ◌^◌, ◌<◌, ◌≤◌, min, List, [], length, take, get_or, refl, sym, ap, ◌∙◌, subst, subst₂, arith, get_or-take}
 use Rattle.std.proofs.lemmas.List.{take-take, length-take-le}
 use Rattle.std.proofs.lemmas.List.Sums.{sum_by_more}
-use Rattle.mt_linear.specs.declared.Order.{Order}
+use Rattle.mt_linear.specs.declared.order.Order.{Order}
 use Rattle.mt_system.specs.Rows.{Matrices, SequenceStrength}
 use Rattle.mt_poly.specs.CoprimeLists.{IsCoprimeList, IsNext}
 use Rattle.mt_poly.proofs.MemberLemmas.{list_members, list_coprime, list_unique}

@@ -5,7 +5,7 @@ use Rattle.std.proofs.lemmas.Bool.{cases_lt}
 use Rattle.std.proofs.lemmas.List.{get_or-map, length-map, get_or_append_left, get_or-append_right, length-append, drop-append-le, take-append-le, length-drop, take_all}
 use Rattle.std.proofs.lemmas.Nat.{div_below, mod_below, div-mul-add, mod-mul-add, mul-add-lt, div-add-mod'}
 use Rattle.std.proofs.Math.Seq.{drop-append_seam}
-use Rattle.mt_linear.specs.declared.Order.{Order}
+use Rattle.mt_linear.specs.declared.order.Order.{Order}
 use Rattle.mt_linear.specs.Field.{number_of}
 use Rattle.mt_linear.specs.Linear.{AllElements}
 use Rattle.mt_linear.proofs.FieldLaws.{number_pos, one_below}

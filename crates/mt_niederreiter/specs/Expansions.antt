@@ -1,7 +1,7 @@
 -- Niederreiter's rows (Niederreiter, 1988).
 use Rattle.std.specs.Prelude.{◌≡◌, ℕ, suc, ◌+◌, ◌-◌, ◌*◌, ◌/◌, ◌%◌, ◌<◌, ◌≤◌, ◌==◌, cond, List, [], length, take, get_or, slice_index}
 use Rattle.std.specs.List.{sum_by}
-use Rattle.mt_linear.specs.declared.Order.{Order}
+use Rattle.mt_linear.specs.declared.order.Order.{Order}
 use Rattle.mt_linear.specs.Field.{mul_of}
 use Rattle.mt_linear.specs.Linear.{AllElements}
 use Rattle.mt_system.specs.Rows.{Matrices, row_of}

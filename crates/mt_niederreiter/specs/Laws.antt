@@ -1,6 +1,6 @@
 -- Niederreiter's theorem.
 use Rattle.std.specs.Prelude.{ℕ, ◌-◌, ◌≤◌, List, length, All, AllPairs}
-use Rattle.mt_linear.specs.declared.Order.{Order}
+use Rattle.mt_linear.specs.declared.order.Order.{Order}
 use Rattle.mt_system.specs.Rows.{Matrices, SequenceStrength}
 use Rattle.mt_poly.specs.Polynomials.{IsMember, IsCoprime}
 use Rattle.mt_niederreiter.specs.Expansions.{IsNiederreiter, quality_of}

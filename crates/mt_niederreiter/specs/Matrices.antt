@@ -1,6 +1,6 @@
 -- Niederreiter's matrices of the first polynomials of the coprime list, and their quality parameter (Niederreiter, 1988).
 use Rattle.std.specs.Prelude.{◌≡◌, ℕ, ◌+◌, ◌-◌, ◌^◌, ◌<◌, List, length, min, slice_index}
-use Rattle.mt_linear.specs.declared.Order.{Order}
+use Rattle.mt_linear.specs.declared.order.Order.{Order}
 use Rattle.mt_system.specs.Rows.{Matrices}
 use Rattle.mt_poly.specs.CoprimeLists.{IsCoprimeList}
 use Rattle.mt_niederreiter.specs.Expansions.{IsNiederreiter, quality_of}

@@ -1,6 +1,6 @@
 -- What is kept while the rows are written.
 use Rattle.std.specs.Prelude.{◌≡◌, ℕ, ◌+◌, ◌-◌, ◌*◌, ◌/◌, ◌%◌, ◌<◌, List, [], length, take, drop, get_or}
-use Rattle.mt_linear.specs.declared.Order.{Order}
+use Rattle.mt_linear.specs.declared.order.Order.{Order}
 use Rattle.mt_linear.specs.Linear.{AllElements}
 use Rattle.mt_niederreiter.specs.Expansions.{IsRow, degree_of}
 

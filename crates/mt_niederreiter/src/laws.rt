@@ -1,5 +1,5 @@
 //! What holds of the definitions, whatever the code.
-ghost use Rattle.mt_linear.specs.declared.Order.{Order};
+ghost use Rattle.mt_linear.specs.declared.order.Order.{Order};
 ghost use Rattle.mt_niederreiter.specs.Laws.{NiederreiterHolds};
 
 /// Niederreiter's theorem: the matrices of pairwise coprime monic polynomials of degree 1 or more are

@@ -1,6 +1,6 @@
 -- Powers and coprime polynomials of numbers over the field of their order.
 use Rattle.std.proofs.Common.{◌≡◌, ◌≢◌, ℕ, zero, suc, ◌+◌, ◌-◌, ◌*◌, ◌<◌, ◌≤◌, List, [], ◌∷◌, get_or, sym, ap, ◌∙◌, arith}
-use Rattle.mt_linear.specs.declared.Order.{Order}
+use Rattle.mt_linear.specs.declared.order.Order.{Order}
 use Rattle.mt_linear.specs.Field.{number_of}
 use Rattle.mt_linear.specs.Linear.{AllElements}
 use Rattle.mt_linear.proofs.FieldLaws.{number_pos, one_below}

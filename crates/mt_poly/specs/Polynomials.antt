@@ -1,6 +1,6 @@
 -- Polynomials over a finite field: lists of coefficients, the constant first.
 use Rattle.std.specs.Prelude.{◌≡◌, ◌≢◌, ℕ, zero, suc, ◌-◌, ◌<◌, ◌≤◌, List, [], ◌∷◌, length, slice_index}
-use Rattle.mt_linear.specs.declared.Order.{Order}
+use Rattle.mt_linear.specs.declared.order.Order.{Order}
 use Rattle.mt_linear.specs.Field.{add_of, mul_of}
 use Rattle.mt_linear.specs.Linear.{AllElements}
 

@@ -1,7 +1,7 @@
 -- The strength of the systems that stand without a parent.
 use Rattle.std.proofs.Common.{◌≡◌, ◌≢◌, ◌==◌, ℕ, zero, suc, ◌+◌, ◌<◌, ◌≤◌, inl, inr, cond, ltb, refl, sym, ap, ◌∙◌, subst, arith}
 use Rattle.std.proofs.lemmas.Bool.{cases_lt, cases_eq, cases_order, cond-true, cond-false, lt-ltb, le-ltb, eq-eqb, ne_eqb}
-use Rattle.mt_linear.specs.declared.Order.{Order}
+use Rattle.mt_linear.specs.declared.order.Order.{Order}
 use Rattle.mt_linear.proofs.Abstract.{Ops, HasFieldLaws, sum_null, mul_null, digit, field_of, field_laws}
 use Rattle.mt_linear.proofs.Sums.{null_mul, sum_one}
 use Rattle.mt_system.specs.Rows.{Matrices, Strength}

@@ -1,6 +1,6 @@
 -- The systems that stand without a parent.
 use Rattle.std.specs.Prelude.{ℕ, suc, ◌==◌, cond, ltb}
-use Rattle.mt_linear.specs.declared.Order.{Order}
+use Rattle.mt_linear.specs.declared.order.Order.{Order}
 use Rattle.mt_system.specs.Rows.{Matrices}
 use Rattle.mt_system.specs.Digits.{HasDigits, unit}
 

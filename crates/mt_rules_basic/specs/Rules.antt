@@ -1,6 +1,6 @@
 -- The system b that each rule makes of a parent a.
 use Rattle.std.specs.Prelude.{◌≡◌, ◌≢◌, ℕ, zero, suc, ◌-◌, ◌<◌, List, length, slice_index, cond, ltb}
-use Rattle.mt_linear.specs.declared.Order.{Order}
+use Rattle.mt_linear.specs.declared.order.Order.{Order}
 use Rattle.mt_linear.specs.Field.{add_of, mul_of, neg_of, inv_of}
 use Rattle.mt_system.specs.Rows.{Matrices, row_of}
 use Rattle.mt_system.specs.Digits.{digit_of, HasDigits, unit}

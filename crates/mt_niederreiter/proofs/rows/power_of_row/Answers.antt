@@ -1,6 +1,6 @@
 use Rattle.std.proofs.Common.{◌≡◌, ◌≢◌, ℕ, suc, ◌/◌, ◌%◌, List, ap, subst, arith}
 use Rattle.std.proofs.lemmas.Result.{IfOk-weaker}
-use Rattle.mt_linear.specs.declared.Order.{Order}
+use Rattle.mt_linear.specs.declared.order.Order.{Order}
 use Rattle.mt_poly.specs.Polynomials.{IsPower, IsProduct, Polynomial, IsPolynomial}
 use Rattle.mt_poly.proofs.MemberLemmas.{positive_member}
 use Rattle.mt_niederreiter.specs.Expansions.{degree_of}

@@ -1,5 +1,5 @@
 use Rattle.std.proofs.Common.{◌≡◌, ℕ, suc, ◌+◌, ◌-◌, ◌*◌, ◌/◌, ◌%◌, ◌≤◌, List, [], ◌++◌, length, map, take, get_or, ap, ◌∙◌, sym, subst, arith, length-take}
-use Rattle.mt_linear.specs.declared.Order.{Order}
+use Rattle.mt_linear.specs.declared.order.Order.{Order}
 use Rattle.mt_poly.specs.declared.polynomials.Poly.{Poly}
 use Rattle.mt_poly.specs.Polynomials.{IsMember, IsPolynomial, IsPower}
 use Rattle.mt_poly.proofs.ListLemmas.{take_elements}

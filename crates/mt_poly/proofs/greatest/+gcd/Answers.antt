@@ -1,5 +1,5 @@
 use Rattle.std.proofs.Common.{◌≡◌, ℕ, ◌<◌, slice_index, sym, ap, ◌∙◌, subst}
-use Rattle.mt_linear.specs.declared.Order.{Order}
+use Rattle.mt_linear.specs.declared.order.Order.{Order}
 use Rattle.mt_linear.specs.Field.{number_of, add_of, mul_of, neg_of}
 use Rattle.mt_linear.proofs.FieldLaws.{add_lt}
 use Rattle.mt_poly.specs.Polynomials.{Polynomial, IsPolynomial, IsDivision, IsGreatest, IsProduct}

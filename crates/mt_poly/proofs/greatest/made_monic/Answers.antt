@@ -1,5 +1,5 @@
 use Rattle.std.proofs.Common.{◌≡◌, ℕ, ◌-◌, length, slice_index, sym, ap, ap₂, ◌∙◌, subst, [], ◌∷◌, List, get_or, arith}
-use Rattle.mt_linear.specs.declared.Order.{Order}
+use Rattle.mt_linear.specs.declared.order.Order.{Order}
 use Rattle.mt_linear.specs.Field.{add_of, mul_of, inv_of}
 use Rattle.mt_linear.proofs.FieldLaws.{mul_lt}
 use Rattle.mt_linear.proofs.Combination.{zero_add}

@@ -2,7 +2,7 @@ use Rattle.std.proofs.Common.{◌≡◌, ◌≢◌, ℕ, ◌-◌, ◌<◌, ◌�
 use Rattle.std.proofs.lemmas.Bool.{cases_lt, false≢true}
 use Rattle.std.proofs.lemmas.List.{get_or_read, get_or-map, length-map}
 use Rattle.std.proofs.lemmas.List.Elements.{All-map}
-use Rattle.mt_linear.specs.declared.Order.{Order}
+use Rattle.mt_linear.specs.declared.order.Order.{Order}
 use Rattle.mt_poly.specs.declared.polynomials.Poly.{Poly}
 use Rattle.mt_poly.specs.Polynomials.{IsPolynomial, IsCoprime, IsGreatest}
 use Rattle.mt_poly.proofs.GreatestLemmas.{coprime_from_greatest, not_coprime}
