@@ -10,7 +10,7 @@ use Rattle.mint.specs.declared.checks.Outcome.TheVariants as outcome
 use Rattle.mint.specs.declared.words.Task.{Task}
 use Rattle.mint.specs.declared.words.Task.TheVariants as task
 use Rattle.mint.specs.declared.words.Command.{Command}
-use Rattle.mint.specs.Output.{Wrote, WroteFront}
+use Rattle.mint.specs.Output.{Wrote, WrotePrefix}
 use Rattle.mint.specs.Run.{outcome_status, sequence_ask, IsNiederreiter, Does, IsRun, IsDone, IsEnd}
 use Rattle.mint.specs.Statuses.{number_of_status}
 use Rattle.mint.specs.Words.{IsCommand}
@@ -24,7 +24,7 @@ module _ (words : List (List ℕ)) (before after written_before written_after : 
   none result impossible h = impossible (subst (λ (s : Status). IsRun words before after s output) (sym h.0) run)
 
   pub IsEnd-run : (result : Status) → (result ≢ WriteFault → (result ≡ status) × Wrote written_before written_after output)
-      → (result ≡ WriteFault → WroteFront written_before written_after output) → IsEnd words before after written_before written_after result
+      → (result ≡ WriteFault → WrotePrefix written_before written_after output) → IsEnd words before after written_before written_after result
   IsEnd-run Ok whole cut = done Ok (whole (λ e. absurd (let n = ap number_of_status e in omega arith)))
   IsEnd-run Words whole cut = done Words (whole (λ e. absurd (let n = ap number_of_status e in omega arith)))
   IsEnd-run Refused whole cut = done Refused (whole (λ e. absurd (let n = ap number_of_status e in omega arith)))

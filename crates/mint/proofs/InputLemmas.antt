@@ -13,4 +13,4 @@ Taken-more E (Some b) None None text n buffer taken takes = tt
 Taken-more E (Some b) None (Some c) text n buffer taken takes = absurd takes
 Taken-more E (Some b) (Some a) None text n buffer taken takes = tt
 Taken-more E (Some b) (Some a) (Some c) text n buffer taken takes =
-    taken ∙ ap (λ (xs : List ℕ). text ++ xs) takes.front ∙ sym (append_assoc text (take n buffer) c)
+    taken ∙ ap (λ (xs : List ℕ). text ++ xs) takes.prefix ∙ sym (append_assoc text (take n buffer) c)

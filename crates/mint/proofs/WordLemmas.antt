@@ -51,12 +51,12 @@ same_bounds b m s small low e f =
     (omega (arith, b.m_low), omega arith, omega (arith, b.s_low), omega arith)
 
 -- what a word of bounds says, from its two parts
-pub bounds_read : (word front back : List ℕ) (m s : ℕ) → word ≡ front ++ 44 ∷ back → front ≡ decimal m → back ≡ decimal s → m < 2 ^ 64 → s < 2 ^ 64
-    → ((b : Bounds) → word ≡ bounds_word b → (front ≡ decimal b.m_max) × (back ≡ decimal b.s_max)) → (r : Option Bounds)
+pub bounds_read : (word prefix back : List ℕ) (m s : ℕ) → word ≡ prefix ++ 44 ∷ back → prefix ≡ decimal m → back ≡ decimal s → m < 2 ^ 64 → s < 2 ^ 64
+    → ((b : Bounds) → word ≡ bounds_word b → (prefix ≡ decimal b.m_max) × (back ≡ decimal b.s_max)) → (r : Option Bounds)
     → (IsSome r ↔ ((1 ≤ m) × (m ≤ 16) × (1 ≤ s) × (s ≤ 32))) → IfSome r (λ b. b.m_max ≡ m) → IfSome r (λ b. b.s_max ≡ s)
     → MatchOption r ((b : Bounds) → word ≢ bounds_word b) (λ b. word ≡ bounds_word b)
-bounds_read word front back m s whole front_is back_is small low cut None taken m_is s_is = λ b e.
+bounds_read word prefix back m s whole prefix_is back_is small low cut None taken m_is s_is = λ b e.
     let parts = cut b e in
-    absurd (false≢true (taken.1 (same_bounds b m s small low (sym front_is ∙ parts.0) (sym back_is ∙ parts.1))))
-bounds_read word front back m s whole front_is back_is small low cut (Some b) taken m_is s_is =
-    whole ∙ ap₂ (λ (x y : List ℕ). x ++ 44 ∷ y) (front_is ∙ ap decimal (sym m_is)) (back_is ∙ ap decimal (sym s_is))
+    absurd (false≢true (taken.1 (same_bounds b m s small low (sym prefix_is ∙ parts.0) (sym back_is ∙ parts.1))))
+bounds_read word prefix back m s whole prefix_is back_is small low cut (Some b) taken m_is s_is =
+    whole ∙ ap₂ (λ (x y : List ℕ). x ++ 44 ∷ y) (prefix_is ∙ ap decimal (sym m_is)) (back_is ∙ ap decimal (sym s_is))

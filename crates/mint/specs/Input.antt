@@ -1,7 +1,7 @@
 -- What is taken of the input.
 use Rattle.std.specs.Prelude.{◌≡◌, ℕ, ◌<◌, ◌≤◌, List, [], ◌++◌, length, Option, None, Some}
 
--- these bytes were taken from the front of those left, where the input tells them
+-- these bytes were taken from the beginning of those left, where the input tells them
 abbrev pub Taken : Option (List ℕ) → Option (List ℕ) → List ℕ → Type 0
 Taken None None text = Unit {0}
 Taken None (Some after) text = ⊥

@@ -6,6 +6,6 @@ use Rattle.mt_io.specs.Streams.{Appends}
 abbrev pub Wrote : Option (List ℕ) → Option (List ℕ) → List ℕ → Type 0
 Wrote before after bytes = Appends {T = Unit {0}} {E = Unit {0}} before after (Ok tt) bytes
 
--- a front of these bytes was appended, where the output tells them
-abbrev pub WroteFront : Option (List ℕ) → Option (List ℕ) → List ℕ → Type 0
-WroteFront before after bytes = Appends {T = Unit {0}} {E = Unit {0}} before after (Err tt) bytes
+-- a prefix of these bytes was appended, where the output tells them
+abbrev pub WrotePrefix : Option (List ℕ) → Option (List ℕ) → List ℕ → Type 0
+WrotePrefix before after bytes = Appends {T = Unit {0}} {E = Unit {0}} before after (Err tt) bytes

@@ -24,7 +24,7 @@ use Rattle.mint.specs.declared.words.Task.{Task}
 use Rattle.mint.specs.declared.words.Task.TheVariants as task
 use Rattle.mint.specs.declared.words.Command.{Command}
 use Rattle.mint.specs.Input.{IsInput}
-use Rattle.mint.specs.Output.{Wrote, WroteFront}
+use Rattle.mint.specs.Output.{Wrote, WrotePrefix}
 use Rattle.mint.specs.Outcomes.{IsOutcome}
 use Rattle.mint.specs.Texts.{usage_text, outcome_text, sequence_text}
 use Rattle.mint.specs.Words.{IsCommand}
@@ -115,12 +115,12 @@ abbrev pub IsDone : List (List ℕ) → Option (List ℕ) → Option (List ℕ) 
 IsDone words before after written_before written_after status =
     (output : List ℕ) × IsRun words before after status output × Wrote written_before written_after output
 
--- a front of the output of a run was appended
+-- a prefix of the output of a run was appended
 pub record IsCut (words : List (List ℕ)) (before after written_before written_after : Option (List ℕ)) : Type 0 where
   pub status : Status
   pub output : List ℕ
   pub run : IsRun words before after status output
-  pub wrote : WroteFront written_before written_after output
+  pub wrote : WrotePrefix written_before written_after output
 
 -- how a command ended, by its words, the bytes left on its input and those written on its output
 abbrev pub IsEnd : List (List ℕ) → Option (List ℕ) → Option (List ℕ) → Option (List ℕ) → Option (List ℕ) → Status → Type 0

@@ -4,7 +4,7 @@ ghost use Rattle.mt_io.specs.Faults.{Rose};
 ghost use Rattle.mt_cells.specs.declared.rules.Rule.{Rule};
 ghost use Rattle.mt_cells.specs.Instances.{has_rule};
 ghost use Rattle.mint.specs.Input.{IsInput, TakesAtMost};
-ghost use Rattle.mint.specs.Output.{Wrote, WroteFront};
+ghost use Rattle.mint.specs.Output.{Wrote, WrotePrefix};
 ghost use Rattle.mint.specs.Run.{outcome_status, IsCheck, IsChecked, IsAnswered, sequence_ask, IsNiederreiter, Does, AsksForNoCheck, IsEnd};
 
 use crate::checks::{Outcome, check_text};
@@ -198,7 +198,7 @@ pub fn write_answer<W: Sink>(output: &mut W, status: Status, text: &[u8]) -> Sta
     ensures done { result ≢ Status.WriteFault
         → (result ≡ status) × Wrote (W.written output.old) (W.written output.new) text.now }
     ensures cut { result ≡ Status.WriteFault
-        → WroteFront (W.written output.old) (W.written output.new) text.now }
+        → WrotePrefix (W.written output.old) (W.written output.new) text.now }
     ensures fault { result ≡ Status.WriteFault → Rose (W.faults output.old) (W.faults output.new) }
 {
     match output.write_all(text) {

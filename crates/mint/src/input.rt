@@ -68,7 +68,7 @@ fn fill<R: Source>(input: &mut R, buffer: &mut [u8]) -> Result<usize, Failed>
 fn read_behind<R: Source>(input: &mut R, buffer: &mut [u8], from: usize) -> Result<usize, Failed>
     requires { from < length buffer.old }
     ensures within { IfOk result (λ n. from + n ≤ length buffer.new) }
-    ensures front { take from buffer.new ≡ take from buffer.old }
+    ensures prefix { take from buffer.new ≡ take from buffer.old }
     ensures bytes { Takes (R.left input.old) (R.left input.new) result (drop from buffer.new) }
     ensures cause { HasCause (R.faults input.old) (R.faults input.new) result }
 {

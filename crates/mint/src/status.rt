@@ -15,7 +15,7 @@ pub enum Status {
     Refused,
     /// The input failed. Nothing was written.
     ReadFault,
-    /// The output failed. A front of the text was written.
+    /// The output failed. A prefix of the text was written.
     WriteFault,
     /// The question is outside the bounds.
     Outside,

@@ -271,9 +271,9 @@ fn failing_input_writes_nothing(rt: HostRuntime) -> Result<(), Fail> {
 }
 
 #[test]
-fn failing_output_has_a_front(rt: HostRuntime) -> Result<(), Fail> {
+fn failing_output_has_a_prefix(rt: HostRuntime) -> Result<(), Fail> {
     let alloc = rt.alloc();
-    for (text, front) in [(ONE, b"hol".as_slice()), (TWIN, b"ref")] {
+    for (text, prefix) in [(ONE, b"hol".as_slice()), (TWIN, b"ref")] {
         let words = words(alloc, &["16,32", "check"])?;
         let mut input = MemorySource::new(Vec::from_slice(alloc, text)?, 100, Vec::new(alloc));
         let mut output = MemorySink::new(alloc, 200, Vec::from_slice(alloc, &[1])?, 3)?;
@@ -281,7 +281,7 @@ fn failing_output_has_a_front(rt: HostRuntime) -> Result<(), Fail> {
             run_command(alloc, &words, &mut input, &mut output),
             Status::WriteFault
         );
-        assert_eq!(rt; output.bytes(), front);
+        assert_eq!(rt; output.bytes(), prefix);
     }
     Ok(())
 }

@@ -1,8 +1,8 @@
 -- Why there is no answer.
 use Rattle.mt_cells.specs.declared.bounds.Bounds.{Bounds}
 use Rattle.mt_cells.specs.declared.asks.Question.{Question}
-use Rattle.mt_answer.specs.declared.answering.Refused.{Refused}
-use Rattle.mt_answer.specs.declared.answering.Refused.TheVariants.{Outside, Memory}
+use Rattle.mt_answer.specs.declared.answer.Refused.{Refused}
+use Rattle.mt_answer.specs.declared.answer.Refused.TheVariants.{Outside, Memory}
 use Rattle.mt_answer.specs.Answers.{IsOutsideFor}
 
 -- nothing is said of the question where memory ran out

@@ -1,7 +1,7 @@
 //! Answers to questions, as the command line shows them.
 #![tactic(auto)]
 
-mod answering;
+mod answer;
 mod exports;
 mod lines;
 mod matrices;
@@ -10,6 +10,6 @@ mod tables;
 mod texts;
 mod trees;
 
-pub use answering::text;
+pub use answer::text;
 pub use lines::outside_line;
 pub use texts::Text;

@@ -22,7 +22,7 @@ search_m S M m rest n h k e l =
 -- the row and the place in it
 split : (n d : ℕ) → 1 ≤ d → (n / d + 1 - 1) * d + (n % d + 1 - 1) ≡ n
 split n d h =
-    let front : (n / d + 1 - 1) * d ≡ n / d * d = ap (λ w. w * d) (omega arith) in
+    let prefix : (n / d + 1 - 1) * d ≡ n / d * d = ap (λ w. w * d) (omega arith) in
     let turned : d * (n / d) ≡ n / d * d = omega arith in
     let whole : d * (n / d) + n % d ≡ n = omega arith in
     omega arith

@@ -10,8 +10,7 @@ use crate::bounds::Bounds;
 use crate::cells::Cell;
 use crate::lines::{Line, Lines, Stage, lines_of_parent};
 use crate::rules::{Rule, RuleSet};
-use mt_linear::Steps;
-use mt_linear::Order;
+use mt_linear::{Order, Steps};
 use std::marker::Model;
 use std::sync::ledger::Ledger;
 

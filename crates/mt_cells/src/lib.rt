@@ -18,5 +18,5 @@ pub use bounds::Bounds;
 pub use cells::Cell;
 pub use instances::{Instance, Instances, conclude, fan, instances_of_parent};
 pub use lines::{Line, Lines, Stage, lines_of_parent};
-pub use rules::{Rule, RuleSet};
 pub use mt_linear::Steps;
+pub use rules::{Rule, RuleSet};

@@ -24,7 +24,7 @@ same_cut (x ∷ xs) (y ∷ ys) zs ws l e =
     let first : x ≡ y = cc in
     (cc, both.1)
 
--- behind the shorter front stands a line of the longer one
+-- behind the shorter prefix stands a line of the longer one
 pub record GoesOn (P : List ℕ → Type 0) (zs : Lines) : Type 0 where
   pub line : List ℕ
   pub rest : Lines

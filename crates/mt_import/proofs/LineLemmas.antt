@@ -3,7 +3,7 @@ use Rattle.std.proofs.Common.{◌≡◌, ◌≢◌, ℕ, zero, suc, append-nil, 
 use Rattle.std.proofs.lemmas.Bool.{both_ways, ne_eqb, cond-true, cond-false, not_from_true, not_from_false}
 use Rattle.std.proofs.lemmas.List.{take-append-drop, drop_more}
 use Rattle.std.proofs.lemmas.List.Elements.{All-head, All-tail}
-use Rattle.mt_import.specs.Lines.{is_blank, in_front, pieces_of, without_return, lines_of, goes_on, words_of}
+use Rattle.mt_import.specs.Lines.{is_blank, onto_first, pieces_of, without_return, lines_of, goes_on, words_of}
 
 -- a list, cut at a place within it
 cut_at : (xs : List ℕ) (i : ℕ) → i < length xs → xs ≡ take i xs ++ get_or xs i 0 ∷ drop (i + 1) xs
@@ -13,13 +13,13 @@ pub pieces_of-line : (line rest : List ℕ) → All (λ b. b ≢ 10) line → pi
 pieces_of-line [] rest h = refl
 pieces_of-line (b ∷ bs) rest h =
     cond-false (eqb b 10) _ _ (ne_eqb b 10 (All-head (λ b. b ≢ 10) b bs h))
-    ∙ ap (in_front b) (pieces_of-line bs rest (All-tail (λ b. b ≢ 10) b bs h))
+    ∙ ap (onto_first b) (pieces_of-line bs rest (All-tail (λ b. b ≢ 10) b bs h))
 
 pieces_of-last : (b : ℕ) (bs : List ℕ) → All (λ b. b ≢ 10) (b ∷ bs) → pieces_of (b ∷ bs) ≡ (b ∷ bs) ∷ []
 pieces_of-last b [] h = cond-false (eqb b 10) _ _ (ne_eqb b 10 (All-head (λ b. b ≢ 10) b [] h))
 pieces_of-last b (c ∷ bs) h =
     cond-false (eqb b 10) _ _ (ne_eqb b 10 (All-head (λ b. b ≢ 10) b (c ∷ bs) h))
-    ∙ ap (in_front b) (pieces_of-last c bs (All-tail (λ b. b ≢ 10) b (c ∷ bs) h))
+    ∙ ap (onto_first b) (pieces_of-last c bs (All-tail (λ b. b ≢ 10) b (c ∷ bs) h))
 
 pub lines_of-first : (text : List ℕ) (i : ℕ) → i < length text → get_or text i 0 ≡ 10 → All (λ b. b ≢ 10) (take i text)
     → lines_of text ≡ without_return (take i text) ∷ lines_of (drop (i + 1) text)
@@ -56,7 +56,7 @@ words_of-one b (c ∷ bs) rest h end =
     let more : All P (c ∷ bs) = All-tail P b (c ∷ bs) h in
     cond-false (is_blank b) _ _ (All-head P b (c ∷ bs) h)
     ∙ cond-true (goes_on (c ∷ bs ++ rest)) _ _ (not_from_false (is_blank c) (All-head P c bs more))
-    ∙ ap (in_front b) (words_of-one c bs rest more end)
+    ∙ ap (onto_first b) (words_of-one c bs rest more end)
 
 -- the line from its first byte that is no blank on
 pub words_of-start : (line : List ℕ) (i : ℕ) → All (λ b. is_blank b ≡ true) (take i line) → words_of line ≡ words_of (drop i line)

@@ -5,15 +5,15 @@ use Rattle.std.specs.Prelude.{ℕ, Bool, false, not, ◌||◌, ◌==◌, if◌th
 abbrev pub is_blank : ℕ → Bool
 is_blank b = b == 32 || b == 9
 
--- a byte in front of the first of these pieces
-abbrev pub in_front : ℕ → List (List ℕ) → List (List ℕ)
-in_front b [] = (b ∷ []) ∷ []
-in_front b (piece ∷ pieces) = (b ∷ piece) ∷ pieces
+-- a byte onto the first of these pieces
+abbrev pub onto_first : ℕ → List (List ℕ) → List (List ℕ)
+onto_first b [] = (b ∷ []) ∷ []
+onto_first b (piece ∷ pieces) = (b ∷ piece) ∷ pieces
 
 -- what stands before each line feed, and what stands behind the last one, if anything does
 abbrev pub pieces_of : List ℕ → List (List ℕ)
 pieces_of [] = []
-pieces_of (b ∷ bs) = if b == 10 then [] ∷ pieces_of bs else in_front b (pieces_of bs)
+pieces_of (b ∷ bs) = if b == 10 then [] ∷ pieces_of bs else onto_first b (pieces_of bs)
 
 -- without a carriage return at its end
 abbrev pub without_return : List ℕ → List ℕ
@@ -33,7 +33,7 @@ goes_on (b ∷ bs) = not (is_blank b)
 -- the words of a line, with one or more blanks between them
 abbrev pub words_of : List ℕ → List (List ℕ)
 words_of [] = []
-words_of (b ∷ bs) = if is_blank b then words_of bs else (if goes_on bs then in_front b (words_of bs) else (b ∷ []) ∷ words_of bs)
+words_of (b ∷ bs) = if is_blank b then words_of bs else (if goes_on bs then onto_first b (words_of bs) else (b ∷ []) ∷ words_of bs)
 
 -- a line without its blanks
 abbrev pub without_blanks : List ℕ → List ℕ

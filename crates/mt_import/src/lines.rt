@@ -38,10 +38,10 @@ fn line_end(text: &[u8]) -> Option<usize>
 fn trim_return(line: &[u8]) -> &[u8]
     ensures { result.now ≡ without_return line.now }
 {
-    let Some((last, front)) = line.split_last() else {
+    let Some((last, prefix)) = line.split_last() else {
         return line;
     };
-    if *last == b'\r' { front } else { line }
+    if *last == b'\r' { prefix } else { line }
 }
 
 /// The first word, and the line behind it. `None` where there is no word.

@@ -26,7 +26,7 @@ pub trait Source {
 
     ghost faults: { Self → ℕ };
 
-    /// Takes bytes from the front of those left, puts them at the front of `buf`, and answers how
+    /// Takes bytes from the beginning of those left, puts them at the beginning of `buf`, and answers how
     /// many they are: 0 exactly where none is left.
     fn read(&mut self, buf: &mut [u8]) -> Result<usize, Failed>
         requires { 0 < length buf.old }
@@ -42,7 +42,7 @@ pub trait Sink {
 
     ghost faults: { Self → ℕ };
 
-    /// Appends all bytes. After `Failed` a front of them was appended.
+    /// Appends all bytes. After `Failed` a prefix of them was appended.
     fn write_all(&mut self, bytes: &[u8]) -> Result<(), Failed>
         ensures bytes { Appends (written self.old) (written self.new) result bytes.now }
         ensures cause { HasCause (faults self.old) (faults self.new) result };

@@ -34,22 +34,22 @@ rows_few_at o m rows no_row is =
     let ps = pivots_of rows in
     let size : length ps ≡ length rows = length-map rows (λ (r : Row). r.pivot) in
     let apart : (i j : ℕ) (d : ℕ) → i < j → j < length ps → eqb (get_or ps i d) (get_or ps j d) ≡ false = λ i j d l k.
-        ne_eqb (get_or ps i d) (get_or ps j d) (λ e.
-          let j_in : j < length rows = omega arith in
-          let i_in : i < length rows = omega arith in
-          let row = get_or rows j no_row in
-          let early = get_or rows i no_row in
-          let same : row.pivot ≡ early.pivot = sym (get_or-map (λ (r : Row). r.pivot) rows j no_row d j_in) ∙ sym e ∙ get_or-map (λ (r : Row). r.pivot) rows i no_row d i_in in
-          let one : get_or row.reduced.items early.pivot 0 ≡ 1 = ap (λ p. get_or row.reduced.items p 0) (sym same) ∙ (is.each j no_row j_in).one_at_pivot in
-          let zero_there : get_or row.reduced.items early.pivot 0 ≡ 0 = is.cleared i j no_row l j_in in
-          absurd (omega arith)) in
+    ne_eqb (get_or ps i d) (get_or ps j d) (λ e.
+    let j_in : j < length rows = omega arith in
+    let i_in : i < length rows = omega arith in
+    let row = get_or rows j no_row in
+    let early = get_or rows i no_row in
+    let same : row.pivot ≡ early.pivot = sym (get_or-map (λ (r : Row). r.pivot) rows j no_row d j_in) ∙ sym e ∙ get_or-map (λ (r : Row). r.pivot) rows i no_row d i_in in
+    let one : get_or row.reduced.items early.pivot 0 ≡ 1 = ap (λ p. get_or row.reduced.items p 0) (sym same) ∙ (is.each j no_row j_in).one_at_pivot in
+    let zero_there : get_or row.reduced.items early.pivot 0 ≡ 0 = is.cleared i j no_row l j_in in
+    absurd (omega arith)) in
     let below : (q : ℕ) → list_any (eqb q) ps ≡ true → q < m = λ q h.
-        let f = Any-from_list_any (eqb q) ps h in
-        let k_in : f.0 < length ps = f.2 in
-        let at_zero : get_or ps f.0 0 ≡ q =
-            sym (get_or_read ps f.0 f.1 k_in (sym f.3) 0) ∙ sym (eqb-true q f.1 f.4) in
-        let pivot : (get_or rows f.0 no_row).pivot < m = (is.each f.0 no_row (omega arith)).pivot_in in
-        subst (λ n. n < m) (sym (get_or-map (λ (r : Row). r.pivot) rows f.0 no_row 0 (omega arith)) ∙ at_zero) pivot in
+    let f = Any-from_list_any (eqb q) ps h in
+    let k_in : f.0 < length ps = f.2 in
+    let at_zero : get_or ps f.0 0 ≡ q =
+    sym (get_or_read ps f.0 f.1 k_in (sym f.3) 0) ∙ sym (eqb-true q f.1 f.4) in
+    let pivot : (get_or rows f.0 no_row).pivot < m = (is.each f.0 no_row (omega arith)).pivot_in in
+    subst (λ n. n < m) (sym (get_or-map (λ (r : Row). r.pivot) rows f.0 no_row 0 (omega arith)) ∙ at_zero) pivot in
     omega (arith, length-le_from_distinct_below ps m (IsDistinct-from_apart eqb ps apart) below)
 
 pub rows_few : (o : Order) (m : ℕ) (rows : List Row) → IsReduced o m rows → length rows ≤ m

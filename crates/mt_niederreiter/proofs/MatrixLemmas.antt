@@ -36,12 +36,12 @@ shown_more ps i p below is =
     omega (arith, more)
 
 pub shown_quality : (o : Order) (ps : List (List ℕ)) (n : ℕ) → IsCoprimeList o ps → n ≤ length ps → IsShownQuality o n (shown_of ps n)
-shown_quality o ps n list within = (quality_of (take n ps), record { polynomials = take n ps; count = size; list = front; value = refl }, refl)
+shown_quality o ps n list within = (quality_of (take n ps), record { polynomials = take n ps; count = size; list = prefix; value = refl }, refl)
   where
     size : length (take n ps) ≡ n
     size = length-take-le n ps within
 
-    front : IsCoprimeList o (take n ps)
-    front k h =
+    prefix : IsCoprimeList o (take n ps)
+    prefix k h =
         let below : k < n = omega (arith, size) in
         subst₂ (IsNext o) (sym (take-take k n ps (omega arith))) (sym (get_or-take n ps k _ below)) (list k (omega arith))

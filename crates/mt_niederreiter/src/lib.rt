@@ -3,12 +3,12 @@
 #![tactic(auto)]
 
 mod expansions;
+mod generator_matrices;
 pub mod laws;
-mod parameters;
+mod quality_parameter;
 mod rows;
-mod systems;
 #[cfg(test)]
 mod tests;
 
-pub use parameters::{qualities, quality};
-pub use systems::matrices;
+pub use generator_matrices::matrices;
+pub use quality_parameter::{qualities, quality};

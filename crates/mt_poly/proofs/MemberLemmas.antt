@@ -199,10 +199,10 @@ module _ (o : Order) where
       let above : number_by (number_of o) r ≤ number_by (number_of o) p = g.least p h.follows in
       same_member p r (polynomial_of_member p h.follows.0) g.follows.0 (omega arith)
 
-  same_front : (ps qs : List (List ℕ)) → IsCoprimeList o ps → IsCoprimeList o qs → length ps ≡ length qs → (n : ℕ) → n ≤ length ps → take n ps ≡ take n qs
-  same_front ps qs h g e zero l = refl
-  same_front ps qs h g e (suc n) l =
-      let before : take n ps ≡ take n qs = same_front ps qs h g e n (omega arith) in
+  same_prefix : (ps qs : List (List ℕ)) → IsCoprimeList o ps → IsCoprimeList o qs → length ps ≡ length qs → (n : ℕ) → n ≤ length ps → take n ps ≡ take n qs
+  same_prefix ps qs h g e zero l = refl
+  same_prefix ps qs h g e (suc n) l =
+      let before : take n ps ≡ take n qs = same_prefix ps qs h g e n (omega arith) in
       take-suc ps n [] l
       ∙ ap₂ (λ xs x. xs ++ x ∷ []) before
       (same_next (take n qs) (get_or ps n []) (get_or qs n []) (subst (λ xs. IsNext o xs (get_or ps n [])) before (h n l)) (g n (omega arith)))
@@ -210,4 +210,4 @@ module _ (o : Order) where
 
   pub list_unique : (ps qs : List (List ℕ)) → IsCoprimeList o ps → IsCoprimeList o qs → length ps ≡ length qs → ps ≡ qs
   list_unique ps qs h g e =
-      sym (take_all (length ps) ps (omega arith)) ∙ same_front ps qs h g e (length ps) (omega arith) ∙ take_all (length ps) qs (omega arith)
+      sym (take_all (length ps) ps (omega arith)) ∙ same_prefix ps qs h g e (length ps) (omega arith) ∙ take_all (length ps) qs (omega arith)

@@ -3,18 +3,18 @@
 #![tactic(auto)]
 
 mod arithmetic;
+mod coprime_polynomials;
 mod division;
 mod divisors;
-mod greatest;
+mod euclid;
 mod lists;
-mod members;
 mod polynomials;
 #[cfg(test)]
 mod tests;
 
 pub use arithmetic::{add, mul};
+pub use coprime_polynomials::coprime_list;
 pub use division::{DivRem, div_rem};
 pub use divisors::Gcd;
-pub use greatest::gcd;
-pub use members::coprime_list;
+pub use euclid::gcd;
 pub use polynomials::Poly;

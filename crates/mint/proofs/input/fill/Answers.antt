@@ -13,7 +13,7 @@ loop-filled-preserved g c =
     let old = c.loop-filled.buffer in
     let new = c.read_behind.new.buffer in
     let text : take (c.loop-filled.filled + n) new ≡ take c.loop-filled.filled old ++ take n (drop c.loop-filled.filled new) =
-    take-add c.loop-filled.filled n new ∙ ap (λ (xs : List ℕ). xs ++ take n (drop c.loop-filled.filled new)) c.in_ok-count.ensures.front in
+    take-add c.loop-filled.filled n new ∙ ap (λ (xs : List ℕ). xs ++ take n (drop c.loop-filled.filled new)) c.in_ok-count.ensures.prefix in
     record {
       size = c.read_behind.auto.buffer ∙ i.size;
       within = c.in_ok-count.ensures.within;

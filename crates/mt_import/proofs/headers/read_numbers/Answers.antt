@@ -9,7 +9,7 @@ pub returns-in_err-word : goal.returns-in_err-word
 returns-in_err-word c =
     let numbers = c.loop-i.numbers in
     let i = c.loop-i.i in
-    let front : length (take i numbers) ≡ i = length-take-le i numbers (omega (arith, c.loop-i.invariant.numbers.size)) in
+    let whole : length (take i numbers) ≡ i = length-take-le i numbers (omega (arith, c.loop-i.invariant.numbers.size)) in
     rw c.from_residual.ensures (λ ns words are e.
     let next = next_number (take i numbers) ns (words_of c.loop-i.rest.now) words (omega (arith, are.size)) are.small (sym c.loop-i.invariant.words ∙ e) in
     let none : words_of c.loop-i.rest.now ≡ [] = c.in_err-word.ensures in
@@ -20,7 +20,7 @@ pub returns-in_err-numbers : goal.returns-in_err-numbers
 returns-in_err-numbers c =
     let numbers = c.loop-i.numbers in
     let i = c.loop-i.i in
-    let front : length (take i numbers) ≡ i = length-take-le i numbers (omega (arith, c.loop-i.invariant.numbers.size)) in
+    let whole : length (take i numbers) ≡ i = length-take-le i numbers (omega (arith, c.loop-i.invariant.numbers.size)) in
     rw c.from_residual-in_err-numbers.ensures (λ ns words are e.
     let next = next_number (take i numbers) ns (words_of c.loop-i.rest.now) words (omega (arith, are.size)) are.small (sym c.loop-i.invariant.words ∙ e) in
     let first : words_of c.loop-i.rest.now ≡ c.in_ok-word.word.now ∷ words_of c.in_ok-word.behind.now = c.in_ok-word.ensures in
