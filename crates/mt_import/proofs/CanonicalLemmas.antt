@@ -16,7 +16,8 @@ use Rattle.mt_system.specs.Rows.{IsSystem}
 use Rattle.mt_system.specs.Claims.{IsName, name_characters}
 use Rattle.mt_import.specs.declared.headers.Header.{Header}
 use Rattle.mt_import.specs.Lines.{is_blank, without_return, lines_of, words_of, without_blanks}
-use Rattle.mt_import.specs.Headers.{form_word, numbers_by, header_words, IsHeader}
+use Rattle.mt_system.specs.Forms.{form_word}
+use Rattle.mt_import.specs.Headers.{numbers_by, header_words, IsHeader}
 use Rattle.mt_import.specs.Texts.{IsRow, digits_of, IsBlankLine, IsImport}
 use Rattle.mt_import.specs.Canonical.{header_of, rows_text, canonical_text}
 use Rattle.mt_import.proofs.LineLemmas.{pieces_of-line, words_of-one, words_of-last}

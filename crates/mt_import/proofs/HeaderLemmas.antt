@@ -10,7 +10,8 @@ use Rattle.mt_system.specs.declared.claims.Form.{Form}
 use Rattle.mt_system.specs.declared.claims.Form.TheVariants.{Ooa, Net, Seq}
 use Rattle.mt_import.specs.declared.headers.Header.{Header}
 use Rattle.mt_import.specs.Lines.{words_of}
-use Rattle.mt_import.specs.Headers.{form_word, numbers_by, header_words, IsHeader, IsHeaderLine}
+use Rattle.mt_system.specs.Forms.{form_word}
+use Rattle.mt_import.specs.Headers.{numbers_by, header_words, IsHeader, IsHeaderLine}
 use Rattle.mt_import.specs.HeaderParts.{count_of, AreNumbers, IsHeaderOf}
 
 -- behind the first few of more numbers stands another

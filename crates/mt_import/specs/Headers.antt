@@ -1,17 +1,13 @@
 -- Headers: what the first line of an import text says.
-use Rattle.std.specs.Prelude.{◌≡◌, ℕ, ◌-◌, ◌≤◌, List, [], ◌∷◌, ◌++◌, map, codes, decimal}
+use Rattle.std.specs.Prelude.{◌≡◌, ℕ, ◌-◌, ◌≤◌, List, [], ◌∷◌, ◌++◌, map, decimal}
 use Rattle.mt_linear.specs.declared.order.Order.{Order}
 use Rattle.mt_linear.specs.Field.{number_of}
 use Rattle.mt_system.specs.declared.claims.Form.{Form}
 use Rattle.mt_system.specs.declared.claims.Form.TheVariants.{Ooa, Net, Seq}
+use Rattle.mt_system.specs.Forms.{form_word}
 use Rattle.mt_system.specs.Claims.{IsName}
 use Rattle.mt_import.specs.declared.headers.Header.{Header}
 use Rattle.mt_import.specs.Lines.{words_of}
-
-abbrev pub form_word : Form → List ℕ
-form_word Ooa = codes "ooa"
-form_word Net = codes "net"
-form_word Seq = codes "seq"
 
 -- for an array q, m, s, depth and k, else q, m, s and t, which is m - k
 abbrev pub numbers_by : Form → Header → List ℕ

@@ -3,7 +3,7 @@ ghost use Rattle.std.specs.Prelude.{◌≡◌, ℕ, ◌+◌, ◌*◌, ◌<◌, �
 ghost use Rattle.mt_system.specs.Statements.{statement_of};
 ghost use Rattle.mt_import.specs.declared.import_text.TheConstants.{MOST_BYTES};
 ghost use Rattle.mt_import.specs.Lines.{space, digit_zero};
-ghost use Rattle.mt_import.specs.Headers.{form_word, numbers_by};
+ghost use Rattle.mt_import.specs.Headers.{numbers_by};
 ghost use Rattle.mt_import.specs.Canonical.{header_of, rows_text, canonical_text, IsTextOf};
 
 use mt_system::{Claim, Form};
@@ -15,24 +15,13 @@ pub fn print_import(alloc: Global, claim: &Claim) -> Result<Vec<u8>, AllocError>
     ensures reads { IfOk result (λ t. length t.items ≤ MOST_BYTES
         → IsTextOf t.items (statement_of claim.now)) }
 {
-    let mut text = Vec::from_slice(alloc, form_word(claim.form))?;
+    let mut text = format!(in alloc; "{}", claim.form)?.into_bytes();
     push_sizes(alloc, &mut text, claim)?;
     text.push(b' ')?;
     text.extend_from_slice(claim.name.bytes())?;
     text.push(b'\n')?;
     push_rows(&mut text, claim.system.digits(), claim.system.m())?;
     Ok(text)
-}
-
-// The word of the form.
-fn form_word(form: Form) -> &'static [u8]
-    ensures { result.now ≡ form_word form }
-{
-    match form {
-        Form::Ooa => b"ooa",
-        Form::Net => b"net",
-        Form::Seq => b"seq",
-    }
 }
 
 // Adds the numbers of the header, with a space before each.

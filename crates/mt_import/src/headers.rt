@@ -2,8 +2,9 @@
 ghost use Rattle.std.specs.Prelude.{◌≡◌, ◌≢◌, ℕ, ◌<◌, ◌≤◌, List, ◌∷◌, ◌++◌, map, length, take, decimal, MatchOption, IsTrue, ◌↔◌};
 ghost use Rattle.mt_system.specs.declared.claims.Form.{Form};
 ghost use Rattle.mt_import.specs.declared.headers.Header.{Header};
+ghost use Rattle.mt_system.specs.Forms.{form_word};
 ghost use Rattle.mt_import.specs.Lines.{words_of};
-ghost use Rattle.mt_import.specs.Headers.{form_word, numbers_by, IsHeader, IsHeaderLine};
+ghost use Rattle.mt_import.specs.Headers.{numbers_by, IsHeader, IsHeaderLine};
 ghost use Rattle.mt_import.specs.HeaderParts.{count_of, AreNumbers, IsPlain, IsHeaderOf};
 
 use crate::lines::split_word;

@@ -230,9 +230,7 @@ fn claim_of(header: &Header, digits: Vec<u8>) -> Claim
         unreachable!()
     };
     let sizes = (header.m as u8, header.s as u8, header.depth as u8);
-    let Ok(system) = System::new(order, sizes.0, sizes.1, sizes.2, digits) else {
-        unreachable!()
-    };
+    let system = System::of_elements(order, sizes.0, sizes.1, sizes.2, digits);
     let Some(claim) = Claim::new(header.form, header.name, header.k as u8, system) else {
         unreachable!()
     };

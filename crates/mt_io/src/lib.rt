@@ -14,9 +14,11 @@ mod steady;
 pub use adapters::{StdSink, StdSource};
 pub use memory::{MemorySink, MemorySource};
 pub use steady::{SteadySink, SteadySource};
+use thiserror::Error;
 
 /// A read or a write failed.
-#[derive(Clone, Copy, PartialEq, Eq, Debug)]
+#[derive(Clone, Copy, PartialEq, Eq, Debug, Error)]
+#[error("a read or a write failed")]
 pub struct Failed;
 
 /// A stream of bytes to read. `left` is the bytes that are left, where the object tells them;

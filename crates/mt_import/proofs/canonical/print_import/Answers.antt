@@ -1,6 +1,7 @@
 use Rattle.std.proofs.Common.{◌≡◌, ℕ, ◌*◌, ◌∷◌, ◌++◌, length, flat_map, decimal, append_assoc, rules, sym, ap, ap₂, ◌∙◌, List}
 use Rattle.mt_system.specs.Statements.{statement_of}
-use Rattle.mt_import.specs.Headers.{form_word, numbers_by}
+use Rattle.mt_system.specs.Forms.{form_word}
+use Rattle.mt_import.specs.Headers.{numbers_by}
 use Rattle.mt_import.specs.Canonical.{rows_text, canonical_text, header_of}
 use Rattle.mt_import.proofs.CanonicalLemmas.{canonical_is_import, join_with_byte-header}
 use Rattle.mt_import.proofs.canonical.print_import.Goals as goal
