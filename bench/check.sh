@@ -1,8 +1,10 @@
 #!/usr/bin/env bash
-# Time mint beside the plain C program on the same texts and compare their answers:
-# arrays over 2 and 3, nets over 4 and 9, of 145,499 to 435,897 choices.
+# Time mint beside the plain C program on the same texts and compare their answers: for each of the
+# seven orders an array of 435,897 to 499,178 choices that holds, for all but 2 the same array that
+# fails at its very last choice, and a net and a sequence over 9.
 # Prints for each text the milliseconds of both (median of 5 runs in turn, the start
-# of the process included) and their ratio; ends with status 1 if the answers differ.
+# of the process included) and their ratio, and for a text that fails the ratio of mint's time to that
+# of the text that holds; ends with status 1 if the answers differ.
 # MINT names another program to run, from the top of the repository; CC a compiler.
 export LC_ALL=C
 cd "$(dirname "$0")/.." || exit 1
@@ -27,9 +29,9 @@ fi
 work=$(mktemp -d) || exit 1
 trap 'rm -rf "$work"' EXIT
 "$compiler" -O2 -o "$work/plain" bench/plain.c || exit 1
-cp examples/golay.txt "$work/golay.txt" || exit 1
-for name in wide net-four net-nine; do
-    python3 bench/make_text.py $name >"$work/$name.txt" || exit 1
+names="array-2 $(printf 'array-%s last-%s ' 3 3 4 4 5 5 7 7 8 8 9 9)net sequence"
+for name in $names; do
+    python3 bench/make_text.py ${name/-/ } >"$work/$name.txt" || exit 1
 done
 
 # answer_of PROGRAM TEXT: what it prints, and its status
@@ -48,7 +50,7 @@ time_of() {
 median() { sort -n "$1" | sed -n 3p; }
 
 result=0
-for name in golay wide net-four net-nine; do
+for name in $names; do
     text=$work/$name.txt
     answer_of "$mint" "$text" >"$work/mint.answer"
     answer_of "$work/plain" "$text" >"$work/plain.answer"
@@ -67,8 +69,10 @@ for name in golay wide net-four net-nine; do
     done
     of_mint=$(median "$work/mint.times")
     of_plain=$(median "$work/plain.times")
-    awk -v name="$name" -v mint="$of_mint" -v plain="$of_plain" 'BEGIN {
-        printf "%s: mint %.1f ms, plain %.1f ms, ratio %.2f\n",
-            name, mint / 1000, plain / 1000, mint / plain }'
+    awk -v name="$name" -v mint="$of_mint" -v plain="$of_plain" -v held="$held" 'BEGIN {
+        printf "%s: mint %.1f ms, plain %.1f ms, ratio %.2f", name, mint / 1000, plain / 1000, mint / plain
+        if (name ~ /^last/) printf ", to the text that holds %.2f", mint / held
+        print "" }'
+    held=$of_mint
 done
 exit $result

@@ -1,10 +1,12 @@
 #!/usr/bin/env python3
-"""Print an import text of some 300,000 to 450,000 choices whose strength holds.
+"""Print an import text of some 350,000 to 500,000 choices whose strength holds, or fails at its last.
 
-make_text.py wide [SEED]    an array over 3 of random digits from a seed, 435,897 choices;
-                            the default is the first seed from 1 on whose strength holds
-make_text.py net-four       a net from Niederreiter's sequence over 4, 293,930 choices
-make_text.py net-nine       a net from Niederreiter's sequence over 9, 352,716 choices
+make_text.py array Q [SEED]   an array over Q elements, 435,897 choices of random digits from a seed, or
+                              over 2 the 499,178 of a shortened extended BCH code; the default is the
+                              first seed from 1 on whose strength holds
+make_text.py last Q [SEED]    the same array over more than 2, of whose choices the last alone is dependent
+make_text.py net              a net from Niederreiter's sequence over 9, 352,716 choices
+make_text.py sequence         Niederreiter's sequence over 9, 352,715 choices
 """
 
 import os
@@ -14,7 +16,8 @@ sys.dont_write_bytecode = True
 sys.path.insert(0, os.path.join(os.path.dirname(os.path.abspath(__file__)), '..', 'examples'))
 import make
 
-FIRST_GOOD_SEED = 1
+FIRST_GOOD_SEEDS = {3: 1, 4: 1, 5: 1, 7: 1, 8: 1, 9: 1}
+DIGITS, COORDINATES, STRENGTH = 16, 32, 5
 
 
 def random_digits(seed, order):
@@ -25,27 +28,59 @@ def random_digits(seed, order):
         yield (state >> 32) % order
 
 
-def random_array(seed, order, digits, coordinates, depth):
+def random_array(seed, order):
     source = random_digits(seed, order)
-    return [[[next(source) for _ in range(digits)] for _ in range(depth)]
-            for _ in range(coordinates)]
+    return [[[next(source) for _ in range(DIGITS)] for _ in range(STRENGTH)]
+            for _ in range(COORDINATES)]
 
 
-def niederreiter_net(order, digits, coordinates):
-    sequence = make.niederreiter(make.field_of(order), digits, coordinates - 1)
-    return make.with_reversed(sequence)
+def shortened_code():
+    """28 points of the extended BCH code of length 32 whose dual distance is 8: (1, a, a^3, a^5)."""
+    field = make.Field(2, (1, 0, 1, 0, 0, 1))
+    return [[[1] + [bit for power in (1, 3, 5) for bit in make.digits_of(field.power(a, power), 2, 5)]]
+            for a in range(28)]
 
 
-def example(name, seed=FIRST_GOOD_SEED):
-    if name == 'wide':
-        return make.Example('ooa 3 16 32 5 5 wide', random_array(int(seed), 3, 16, 32, 5))
-    if name == 'net-four':
-        return make.Example('net 4 16 9 4 net-four', niederreiter_net(4, 16, 9))
-    if name == 'net-nine':
-        return make.Example('net 9 11 10 0 net-nine', niederreiter_net(9, 11, 10))
+def array(order, seed=None):
+    """The coordinates, their rows and the strength of an array."""
+    if order == 2:
+        return shortened_code(), 6
+    return random_array(int(seed or FIRST_GOOD_SEEDS[order]), order), STRENGTH
+
+
+def ending_dependent(order, coordinates):
+    """The last row of the first coordinate becomes the sum of those before it.
+
+    All rows of the first coordinate are the last choice, and no other has its last row.
+    """
+    sums = make.field_of(order).sum
+    *rows, last = coordinates[0]
+    total = rows[0]
+    for row in rows[1:]:
+        total = [sums[a][b] for a, b in zip(total, row)]
+    last[:] = total
+    return coordinates
+
+
+def text_of(order, coordinates, strength, name):
+    header = f'ooa {order} {DIGITS} {len(coordinates)} {len(coordinates[0])} {strength} {name}'
+    return make.Example(header, coordinates).text
+
+
+def main(kind, order=None, seed=None):
+    if kind in ('net', 'sequence') and order is None:
+        sequence = make.niederreiter(make.field_of(9), 11, 9)
+        if kind == 'net':
+            return make.Example('net 9 11 10 0 net', make.with_reversed(sequence)).text
+        return make.Example('seq 9 11 9 0 sequence', sequence).text
+    if (kind, order) == ('last', '2') or kind not in ('array', 'last') or order not in list('2345789'):
+        sys.exit(__doc__)
+    coordinates, strength = array(int(order), seed)
+    if kind == 'last':
+        coordinates = ending_dependent(int(order), coordinates)
+    return text_of(order, coordinates, strength, f'{kind}-{order}')
+
+
+if not 1 <= len(sys.argv[1:]) <= 3:
     sys.exit(__doc__)
-
-
-if not 1 <= len(sys.argv[1:]) <= (2 if sys.argv[1:2] == ['wide'] else 1):
-    sys.exit(__doc__)
-print(example(*sys.argv[1:]).text, end='')
+print(main(*sys.argv[1:]), end='')
