@@ -19,12 +19,11 @@ fn digit_modulo_first(parent: &System, pivot: u8, coordinate: u8, row: u8, colum
     ensures element { result < number_of parent.now.order }
 {
     let order = parent.order();
-    let first = parent.row(1, 1);
-    let reduced = parent.row(coordinate + 1, row + 1);
     let column = if column < pivot { column } else { column + 1 };
-    let (pivot, column) = (pivot as usize, column as usize);
-    let factor = order.mul(reduced[pivot], order.inv(first[pivot]));
-    order.add(reduced[column], order.neg(order.mul(factor, first[column])))
+    let inverse = order.inv(parent.digit(0, 0, pivot));
+    let factor = order.mul(parent.digit(coordinate, row, pivot), inverse);
+    let multiple = order.mul(factor, parent.digit(0, 0, column));
+    order.add(parent.digit(coordinate, row, column), order.neg(multiple))
 }
 
 // The rows but the first of the first coordinate and the last of the others.

@@ -40,7 +40,7 @@ impl<'a> Formula for Resized<'a> {
     fn digit(&self, coordinate: u8, row: u8, column: u8) -> u8 {
         let parent = self.parent;
         if coordinate < parent.s() && row < parent.depth() && column < parent.m() {
-            parent.row(coordinate + 1, row + 1)[column as usize]
+            parent.digit(coordinate, row, column)
         } else {
             0
         }

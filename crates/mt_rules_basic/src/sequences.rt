@@ -27,8 +27,7 @@ impl<'a> Formula for WithNetRows<'a> {
     ghost digit_of = { λ f i j c. cond (ltb i f.parent.now.coordinates)
         (digit_of f.parent.now i j c) (unit (f.parent.now.columns - 1 - j) c) };
 
-    ghost is_valid = { λ f. (f.last_column ≡ f.parent.now.columns - 1)
-        × (f.parent.now.depth ≤ 255) };
+    ghost is_valid = { λ f. f.last_column ≡ f.parent.now.columns - 1 };
 
     fn sizes(&self) -> Sizes {
         Sizes {
@@ -41,7 +40,7 @@ impl<'a> Formula for WithNetRows<'a> {
 
     fn digit(&self, coordinate: u8, row: u8, column: u8) -> u8 {
         if coordinate < self.parent.s() {
-            self.parent.row(coordinate + 1, row + 1)[column as usize]
+            self.parent.digit(coordinate, row, column)
         } else {
             (column == self.last_column.saturating_sub(row)) as u8
         }

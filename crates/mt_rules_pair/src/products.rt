@@ -29,8 +29,7 @@ impl<'a> Formula for ProductRows<'a> {
 
     ghost is_valid = { λ f. (f.a.now.order ≡ f.b.now.order)
         × (f.columns ≡ f.a.now.columns + f.b.now.columns)
-        × (f.coordinates ≡ f.a.now.coordinates + f.b.now.coordinates)
-        × (f.b.now.depth ≤ 255) };
+        × (f.coordinates ≡ f.a.now.coordinates + f.b.now.coordinates) };
 
     fn sizes(&self) -> Sizes {
         Sizes {
@@ -46,7 +45,7 @@ impl<'a> Formula for ProductRows<'a> {
         let (s, m) = (a.s(), a.m());
         match (coordinate < s, column < m) {
             (true, true) => deepened_digit(a, coordinate, row, column),
-            (false, false) => b.row(coordinate - s + 1, row + 1)[(column - m) as usize],
+            (false, false) => b.digit(coordinate - s, row, column - m),
             _ => 0,
         }
     }

@@ -7,14 +7,14 @@ use mt_system::System;
 
 // A digit of a row of the parent, whose missing rows are zero. All are counted from 0.
 pub(crate) fn deepened_digit(parent: &System, coordinate: u8, row: u8, column: u8) -> u8
-    requires coordinates { parent.now.coordinates ≤ 255 }
     requires coordinate_in { coordinate < parent.now.coordinates }
     requires column_in { column < parent.now.columns }
     ensures value { result ≡ deepened parent.now coordinate row column }
     ensures element { result < number_of parent.now.order }
 {
-    if row >= parent.depth() {
-        return 0;
+    if row < parent.depth() {
+        parent.digit(coordinate, row, column)
+    } else {
+        0
     }
-    parent.row(coordinate + 1, row + 1)[column as usize]
 }

@@ -31,7 +31,6 @@ impl<'a> Formula for UuvRows<'a> {
     ghost is_valid = { λ f. (f.a.now.order ≡ f.b.now.order)
         × (f.columns ≡ f.a.now.columns + f.b.now.columns)
         × (f.coordinates ≡ f.a.now.coordinates + f.b.now.coordinates)
-        × (f.b.now.depth ≤ 255)
         × (f.a.now.coordinates ≤ f.b.now.coordinates) };
 
     fn sizes(&self) -> Sizes {
@@ -48,12 +47,9 @@ impl<'a> Formula for UuvRows<'a> {
         let (s, m) = (a.s(), a.m());
         match (coordinate < s, column < m) {
             (true, true) => deepened_digit(a, coordinate, row, column),
-            (true, false) => {
-                let digit = b.row(coordinate + 1, row + 1)[(column - m) as usize];
-                b.order().neg(digit)
-            }
+            (true, false) => b.order().neg(b.digit(coordinate, row, column - m)),
             (false, true) => 0,
-            (false, false) => b.row(coordinate - s + 1, row + 1)[(column - m) as usize],
+            (false, false) => b.digit(coordinate - s, row, column - m),
         }
     }
 }
