@@ -1,15 +1,17 @@
 -- What was read so far of the lines behind the header.
-use Rattle.std.proofs.Common.{◌≡◌, ℕ, ◌+◌, ◌-◌, ◌*◌, suc-mul, zero-mul, ◌<◌, ◌≤◌, List, [], ◌∷◌, ◌++◌, length, flat_map, All, refl, sym, ap, ◌∙◌, subst, arith}
+use Rattle.std.proofs.Common.{◌≡◌, ℕ, ◌+◌, ◌-◌, ◌*◌, suc-mul, zero-mul, ◌<◌, ◌≤◌, List, [], ◌∷◌, ◌++◌, length, get_or, take, drop, min, length-take, length-drop, flat_map, All, refl, sym, ap, ◌∙◌, subst, arith}
 use Rattle.std.specs.Prelude.{Result, Ok, Err, MatchResult}
-use Rattle.std.proofs.lemmas.List.{append_assoc, length-append, length-map, length_push}
+use Rattle.std.proofs.lemmas.List.{append_assoc, drop_more, take_more, get_or-take, take_at, length-append, length-map, length_push}
 use Rattle.std.proofs.lemmas.List.Elements.{All-nil, All-push, All-head, All-tail, All-append, All-map, All-weaker}
 use Rattle.mt_import.specs.declared.headers.Header.{Header}
 use Rattle.mt_import.specs.declared.refusals.FormRefused.{FormRefused}
 use Rattle.mt_import.specs.declared.refusals.FormRefused.TheVariants.{Line}
 use Rattle.mt_import.specs.declared.refusals.Wanted.TheVariants.{Row, Blank}
+use Rattle.mt_import.specs.declared.import_text.TheConstants.{MOST_BYTES}
 use Rattle.mt_import.specs.Lines.{lines_of, without_blanks}
-use Rattle.mt_import.specs.Texts.{IsRow, digits_of, IsBlankLine, HasNoRow, Begins, IsImport, IsRefusal}
-use Rattle.mt_import.specs.Reading.{StartsWith, TakesRows, LacksRow, LacksBlank}
+use Rattle.mt_import.specs.Headers.{IsHeader}
+use Rattle.mt_import.specs.Texts.{IsRow, digits_of, IsBlankLine, HasNoRow, HasHeader, Begins, IsImport, IsRefusal}
+use Rattle.mt_import.specs.Reading.{StartsWith, HasRows, row_lines, TakesRows, LacksRow, LacksBlank}
 
 pub takes_none : (h : Header) (text : List ℕ) → TakesRows h 0 text text []
 takes_none h text = record { number = refl; lines = refl; each = All-nil (IsRow h.q h.m) }
@@ -68,7 +70,7 @@ lacks_blank n text rest behind line blanks k takes next marked e = record {
 }
 
 -- the whole text, from the lines behind the header
-begins : (text rest : List ℕ) (h : Header) (rows others : List (List ℕ)) → length text ≤ 65536 → StartsWith text h rest → lines_of rest ≡ rows ++ others → All (IsRow h.q h.m) rows → Begins text h rows others
+begins : (text rest : List ℕ) (h : Header) (rows others : List (List ℕ)) → length text ≤ MOST_BYTES → StartsWith text h rest → lines_of rest ≡ rows ++ others → All (IsRow h.q h.m) rows → Begins text h rows others
 begins text rest h rows others few starts lines each = record {
   few = few;
   first = starts.line;
@@ -77,7 +79,7 @@ begins text rest h rows others few starts lines each = record {
   each = each;
 }
 
-pub refused_row : (text rest : List ℕ) (h : Header) (refused : FormRefused) → length text ≤ 65536 → StartsWith text h rest → LacksRow h (h.s * h.depth) rest refused → IsRefusal text refused
+pub refused_row : (text rest : List ℕ) (h : Header) (refused : FormRefused) → length text ≤ MOST_BYTES → StartsWith text h rest → LacksRow h (h.s * h.depth) rest refused → IsRefusal text refused
 refused_row text rest h refused few starts lacks =
     subst (IsRefusal text) (sym lacks.refused_is) (record {
       header = h;
@@ -89,7 +91,7 @@ refused_row text rest h refused few starts lacks =
       refused = lacks.none;
     })
 
-pub refused_end : (text rest behind : List ℕ) (h : Header) (rows : List (List ℕ)) (refused : FormRefused) → length text ≤ 65536 → StartsWith text h rest → TakesRows h (h.s * h.depth) rest behind rows
+pub refused_end : (text rest behind : List ℕ) (h : Header) (rows : List (List ℕ)) (refused : FormRefused) → length text ≤ MOST_BYTES → StartsWith text h rest → TakesRows h (h.s * h.depth) rest behind rows
     → LacksBlank (h.s * h.depth + 2) behind refused → IsRefusal text refused
 refused_end text rest behind h rows refused few starts takes lacks =
     subst (IsRefusal text) (sym lacks.refused_is) (record {
@@ -105,7 +107,7 @@ refused_end text rest behind h rows refused few starts takes lacks =
       refused = lacks.none;
     })
 
-pub is_import : (text rest behind : List ℕ) (h : Header) (rows : List (List ℕ)) → length text ≤ 65536 → StartsWith text h rest → TakesRows h (h.s * h.depth) rest behind rows → All IsBlankLine (lines_of behind)
+pub is_import : (text rest behind : List ℕ) (h : Header) (rows : List (List ℕ)) → length text ≤ MOST_BYTES → StartsWith text h rest → TakesRows h (h.s * h.depth) rest behind rows → All IsBlankLine (lines_of behind)
     → IsImport text h (flat_map digits_of rows)
 is_import text rest behind h rows few starts takes blank = record {
   rows = rows;
@@ -116,7 +118,7 @@ is_import text rest behind h rows few starts takes blank = record {
   blank = blank;
 }
 
-pub grammar_end : (text rest behind : List ℕ) (h : Header) (rows : List (List ℕ)) → length text ≤ 65536 → StartsWith text h rest → TakesRows h (h.s * h.depth) rest behind rows → (r : Result (Unit {0}) FormRefused)
+pub grammar_end : (text rest behind : List ℕ) (h : Header) (rows : List (List ℕ)) → length text ≤ MOST_BYTES → StartsWith text h rest → TakesRows h (h.s * h.depth) rest behind rows → (r : Result (Unit {0}) FormRefused)
     → MatchResult r (λ _. All IsBlankLine (lines_of behind)) (LacksBlank (h.s * h.depth + 2) behind) → MatchResult r (λ _. (g : Header) × (digits : List ℕ) × IsImport text g digits) (IsRefusal text)
 grammar_end text rest behind h rows few starts takes (Ok _) blank = (h, flat_map digits_of rows, is_import text rest behind h rows few starts takes blank)
 grammar_end text rest behind h rows few starts takes (Err e) lacks = refused_end text rest behind h rows e few starts takes lacks
@@ -136,3 +138,45 @@ small_digits q m (row ∷ rows) each =
     All-append (λ d. d < q) (digits_of row) (flat_map digits_of rows)
     (All-map (λ d. d < q) (λ b. b - 48) (without_blanks row) (All-weaker (λ b. (48 ≤ b) × (b < 48 + q)) (λ b. b - 48 < q) small (without_blanks row) (All-head (IsRow q m) row rows each).digits))
     (small_digits q m rows (All-tail (IsRow q m) row rows each))
+
+-- the lines that are left of a text that begins with its rows
+pub record NextRow (h : Header) (text row behind : List ℕ) (n : ℕ) : Type 0 where
+  pub is_row : IsRow h.q h.m row
+  pub left : lines_of behind ≡ drop (n + 1) (lines_of text)
+  pub passed : take (n + 1) (lines_of text) ≡ take n (lines_of text) ++ row ∷ []
+
+pub next_row : (h : Header) (text rest row behind : List ℕ) (n : ℕ) → HasRows h text → n < h.s * h.depth → lines_of rest ≡ drop n (lines_of text) → lines_of rest ≡ row ∷ lines_of behind → NextRow h text row behind n
+next_row h text rest row behind n has within left next =
+    let ls = lines_of text in
+    let size : length (take (h.s * h.depth) ls) ≡ min (h.s * h.depth) (length ls) = length-take (h.s * h.depth) ls in
+    let inside : n < length ls = omega (arith, has.number) in
+    let cut : row ∷ lines_of behind ≡ get_or ls n row ∷ drop (n + 1) ls = sym next ∙ left ∙ drop_more ls n row inside in
+    let head : row ≡ get_or ls n row = cc in
+    let tail : lines_of behind ≡ drop (n + 1) ls = cc in
+    let at : get_or (row_lines h text) n row ≡ row = get_or-take (h.s * h.depth) ls n row within ∙ sym head in
+    record {
+      is_row = subst (IsRow h.q h.m) at (has.each n row (omega (arith, has.number)));
+      left = tail;
+      passed = take_more ls n row inside ∙ ap (λ (x : List ℕ). take n ls ++ x ∷ []) (sym head);
+    }
+
+pub some_row : (h : Header) (text rest : List ℕ) (n : ℕ) → HasRows h text → n < h.s * h.depth → lines_of rest ≡ drop n (lines_of text) → lines_of rest ≡ [] → ⊥
+some_row h text rest n has within left none =
+    let ls = lines_of text in
+    let size : length (take (h.s * h.depth) ls) ≡ min (h.s * h.depth) (length ls) = length-take (h.s * h.depth) ls in
+    let few : length (drop n ls) ≡ length ls - n = length-drop n ls in
+    let zero : length (drop n ls) ≡ 0 = ap (λ (x : List (List ℕ)). length x) (sym left ∙ none) in
+    omega (arith, has.number)
+
+-- what was read begins with its rows
+pub has_rows : (h : Header) (text rest : List ℕ) (rows : List (List ℕ)) → IsHeader h → TakesRows h (h.s * h.depth) text rest rows → row_lines h text ≡ rows
+has_rows h text rest rows is takes =
+    ap (λ (ls : List (List ℕ)). take (h.s * h.depth) ls) takes.lines ∙ take_at rows (lines_of rest) (h.s * h.depth) takes.number
+
+pub has_header : (text : List ℕ) (h : Header) (digits : List ℕ) → IsImport text h digits → HasHeader text h
+has_header text h digits is = record {
+  line = is.begins.first;
+  others = is.rows ++ is.blanks;
+  lines = is.begins.lines;
+  header = is.begins.header;
+}

@@ -4,6 +4,7 @@ use Rattle.std.specs.List.{join_with_byte}
 use Rattle.mt_linear.specs.Field.{number_of}
 use Rattle.mt_system.specs.Statements.{Statement}
 use Rattle.mt_import.specs.declared.headers.Header.{Header}
+use Rattle.mt_import.specs.Lines.{line_feed, space, digit_zero}
 use Rattle.mt_import.specs.Headers.{header_words}
 use Rattle.mt_import.specs.Texts.{IsImport}
 
@@ -26,9 +27,9 @@ IsTextOf text c = IsImport text (header_of c) c.system.digits
 -- n rows of m digits, with a line feed behind each
 abbrev pub rows_text : ℕ → ℕ → List ℕ → List ℕ
 rows_text m zero digits = []
-rows_text m (suc n) digits = map (λ d. 48 + d) (take m digits) ++ 10 ∷ rows_text m n (drop m digits)
+rows_text m (suc n) digits = map (λ d. digit_zero + d) (take m digits) ++ line_feed ∷ rows_text m n (drop m digits)
 
 -- the words of the header with single spaces between them, and the rows
 abbrev pub canonical_text : Statement → List ℕ
 canonical_text c =
-    join_with_byte 32 (header_words (header_of c)) ++ 10 ∷ rows_text c.system.columns (c.system.coordinates * c.system.depth) c.system.digits
+    join_with_byte space (header_words (header_of c)) ++ line_feed ∷ rows_text c.system.columns (c.system.coordinates * c.system.depth) c.system.digits

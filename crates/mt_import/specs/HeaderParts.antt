@@ -3,6 +3,7 @@ use Rattle.std.specs.Prelude.{◌≡◌, ℕ, ◌<◌, ◌≤◌, List, length, 
 use Rattle.mt_system.specs.declared.claims.Form.{Form}
 use Rattle.mt_system.specs.declared.claims.Form.TheVariants.{Ooa, Net, Seq}
 use Rattle.mt_import.specs.declared.headers.Header.{Header}
+use Rattle.mt_import.specs.Lines.{digit_zero}
 use Rattle.mt_import.specs.Headers.{numbers_by, IsHeader}
 
 -- how many numbers a header of this form has
@@ -23,8 +24,8 @@ pub record IsHeaderOf (form : Form) (ns name : List ℕ) (h : Header) : Type 0 w
   pub numbers : numbers_by form h ≡ ns
   pub name_is : h.name ≡ name
 
--- one to three bytes, and a zero in front only where it is alone
+-- one to three bytes, and the first of them a zero only where it is alone
 pub record IsPlain (word : List ℕ) : Type 0 where
   pub some : 0 < length word
   pub few : length word ≤ 3
-  pub zero : slice_index word 0 ≡ 48 → length word ≡ 1
+  pub zero : slice_index word 0 ≡ digit_zero → length word ≡ 1

@@ -1,9 +1,25 @@
 -- Lines of a text, and what stands on a line beside blanks.
 use Rattle.std.specs.Prelude.{ℕ, Bool, false, not, ◌||◌, ◌==◌, if◌then◌else◌, List, [], ◌∷◌, map, filter}
 
+-- bytes by name
+abbrev pub tab : ℕ
+tab = 9
+
+abbrev pub line_feed : ℕ
+line_feed = 10
+
+abbrev pub carriage_return : ℕ
+carriage_return = 13
+
+abbrev pub space : ℕ
+space = 32
+
+abbrev pub digit_zero : ℕ
+digit_zero = 48
+
 -- a space or a tab
 abbrev pub is_blank : ℕ → Bool
-is_blank b = b == 32 || b == 9
+is_blank b = b == space || b == tab
 
 -- a byte onto the first of these pieces
 abbrev pub onto_first : ℕ → List (List ℕ) → List (List ℕ)
@@ -13,12 +29,12 @@ onto_first b (piece ∷ pieces) = (b ∷ piece) ∷ pieces
 -- what stands before each line feed, and what stands behind the last one, if anything does
 abbrev pub pieces_of : List ℕ → List (List ℕ)
 pieces_of [] = []
-pieces_of (b ∷ bs) = if b == 10 then [] ∷ pieces_of bs else onto_first b (pieces_of bs)
+pieces_of (b ∷ bs) = if b == line_feed then [] ∷ pieces_of bs else onto_first b (pieces_of bs)
 
 -- without a carriage return at its end
 abbrev pub without_return : List ℕ → List ℕ
 without_return [] = []
-without_return (b ∷ []) = if b == 13 then [] else b ∷ []
+without_return (b ∷ []) = if b == carriage_return then [] else b ∷ []
 without_return (b ∷ c ∷ bs) = b ∷ without_return (c ∷ bs)
 
 -- the lines of a text

@@ -1,5 +1,5 @@
 -- What the reader answers, and what its parts take off a text.
-use Rattle.std.specs.Prelude.{◌≡◌, ℕ, ◌+◌, ◌<◌, List, ◌∷◌, ◌++◌, length, All, Result, Ok, Err}
+use Rattle.std.specs.Prelude.{◌≡◌, ℕ, ◌+◌, ◌*◌, ◌<◌, List, ◌∷◌, ◌++◌, length, take, flat_map, All, Result, Ok, Err}
 use Rattle.mt_system.specs.declared.claims.Claim.{Claim}
 use Rattle.mt_system.specs.Statements.{statement_of}
 use Rattle.mt_import.specs.declared.headers.Header.{Header}
@@ -9,8 +9,8 @@ use Rattle.mt_import.specs.declared.refusals.Wanted.TheVariants.{Row, Blank}
 use Rattle.mt_import.specs.declared.refusals.ImportRefused.{ImportRefused}
 use Rattle.mt_import.specs.declared.refusals.ImportRefused.TheVariants.{Form, Memory}
 use Rattle.mt_import.specs.Lines.{lines_of}
-use Rattle.mt_import.specs.Headers.{IsHeaderLine}
-use Rattle.mt_import.specs.Texts.{IsRow, IsBlankLine, HasNoRow, IsRefusal}
+use Rattle.mt_import.specs.Headers.{IsHeader, IsHeaderLine}
+use Rattle.mt_import.specs.Texts.{IsRow, digits_of, IsBlankLine, HasNoRow, IsRefusal}
 use Rattle.mt_import.specs.Canonical.{IsTextOf}
 
 -- line 1 is this header, and the other lines are those of the rest
@@ -24,6 +24,25 @@ abbrev pub IsReading : List ℕ → Result Claim ImportRefused → Type 0
 IsReading text (Ok c) = IsTextOf text (statement_of c)
 IsReading text (Err (Form f)) = IsRefusal text f
 IsReading text (Err Memory) = Unit {0}
+
+-- the lines of the rows, where the text begins with them
+abbrev pub row_lines : Header → List ℕ → List (List ℕ)
+row_lines h text = take (h.s * h.depth) (lines_of text)
+
+-- the text begins with the rows of this header
+pub record HasRows (h : Header) (text : List ℕ) : Type 0 where
+  pub header : IsHeader h
+  pub number : length (row_lines h text) ≡ h.s * h.depth
+  pub each : All (IsRow h.q h.m) (row_lines h text)
+
+-- what an import text says
+pub record Said : Type 0 where
+  pub header : Header
+  pub digits : List ℕ
+
+-- by this header and a text that begins with its rows
+abbrev pub said_by : Header → List ℕ → Said
+said_by h text = record { header = h; digits = flat_map digits_of (row_lines h text) }
 
 -- so many rows, with the rest behind them
 pub record TakesRows (h : Header) (n : ℕ) (text rest : List ℕ) (rows : List (List ℕ)) : Type 0 where
@@ -50,8 +69,3 @@ pub record LacksBlank (n : ℕ) (text : List ℕ) (refused : FormRefused) : Type
   pub blank : All IsBlankLine blanks
   pub none : ¬ IsBlankLine last
   pub refused_is : refused ≡ Line (n + length blanks) Blank
-
--- this is said of the refusal, where memory is not the cause
-abbrev pub IfRefused : (FormRefused → Type 0) → ImportRefused → Type 0
-IfRefused P (Form f) = P f
-IfRefused P Memory = Unit {0}

@@ -4,17 +4,18 @@ use Rattle.mt_import.specs.declared.headers.Header.{Header}
 use Rattle.mt_import.specs.declared.refusals.FormRefused.{FormRefused}
 use Rattle.mt_import.specs.declared.refusals.FormRefused.TheVariants.{TooLong, Line}
 use Rattle.mt_import.specs.declared.refusals.Wanted.TheVariants as wanted
-use Rattle.mt_import.specs.Lines.{lines_of, without_blanks}
+use Rattle.mt_import.specs.declared.import_text.TheConstants.{MOST_BYTES}
+use Rattle.mt_import.specs.Lines.{digit_zero, lines_of, without_blanks}
 use Rattle.mt_import.specs.Headers.{IsHeaderLine}
 
 -- m digits below q, with blanks anywhere
 pub record IsRow (q m : ℕ) (line : List ℕ) : Type 0 where
   pub size : length (without_blanks line) ≡ m
-  pub digits : All (λ b. (48 ≤ b) × (b < 48 + q)) (without_blanks line)
+  pub digits : All (λ b. (digit_zero ≤ b) × (b < digit_zero + q)) (without_blanks line)
 
 -- the digits of a row
 abbrev pub digits_of : List ℕ → List ℕ
-digits_of line = map (λ b. b - 48) (without_blanks line)
+digits_of line = map (λ b. b - digit_zero) (without_blanks line)
 
 abbrev pub IsBlankLine : List ℕ → Type 0
 IsBlankLine line = without_blanks line ≡ []
@@ -28,7 +29,7 @@ pub record HasHeader (text : List ℕ) (h : Header) : Type 0 where
 
 -- a text that is not too long is a line with this header, these rows, and these other lines
 pub record Begins (text : List ℕ) (h : Header) (rows others : List (List ℕ)) : Type 0 where
-  pub few : length text ≤ 65536
+  pub few : length text ≤ MOST_BYTES
   pub first : List ℕ
   pub lines : lines_of text ≡ first ∷ rows ++ others
   pub header : IsHeaderLine first h
@@ -78,7 +79,7 @@ pub record IsRefusedEnd (text : List ℕ) (n : ℕ) : Type 0 where
 
 -- why a text is no import text: it is too long, or this is the first line that is not what it should be
 abbrev pub IsRefusal : List ℕ → FormRefused → Type 0
-IsRefusal text TooLong = 65536 < length text
-IsRefusal text (Line n wanted.Header) = (length text ≤ 65536) × (n ≡ 1) × HasNoHeader (lines_of text)
+IsRefusal text TooLong = MOST_BYTES < length text
+IsRefusal text (Line n wanted.Header) = (length text ≤ MOST_BYTES) × (n ≡ 1) × HasNoHeader (lines_of text)
 IsRefusal text (Line n wanted.Row) = IsRefusedRow text n
 IsRefusal text (Line n wanted.Blank) = IsRefusedEnd text n

@@ -2,17 +2,17 @@
 //! one canonical text of a claim.
 #![tactic(auto)]
 
+mod canonical;
 mod headers;
+mod import_text;
 pub mod laws;
 mod lines;
-mod printing;
-mod reading;
 mod refusals;
 mod rows;
 #[cfg(test)]
 mod tests;
 
+pub use canonical::print_import;
 pub use headers::Header;
-pub use printing::print_import;
-pub use reading::{in_grammar, read_header, read_import};
+pub use import_text::{ImportText, MOST_BYTES, in_grammar, read_header, read_import};
 pub use refusals::{FormRefused, ImportRefused, Wanted};

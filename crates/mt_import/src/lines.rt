@@ -1,6 +1,6 @@
 //! Lines of a text, and words of a line.
 ghost use Rattle.std.specs.Prelude.{◌≡◌, ◌≢◌, ◌<◌, [], ◌∷◌, true, false, length, take, drop, slice_index, All, MatchOption, IfSome};
-ghost use Rattle.mt_import.specs.Lines.{is_blank, lines_of, words_of, without_return};
+ghost use Rattle.mt_import.specs.Lines.{line_feed, is_blank, lines_of, words_of, without_return};
 
 /// Whether the byte is a space or a tab.
 pub fn is_blank(byte: u8) -> bool
@@ -27,9 +27,9 @@ pub fn split_line(text: &[u8]) -> Option<(&[u8], &[u8])>
 // The place of the first line feed.
 fn line_end(text: &[u8]) -> Option<usize>
     ensures { MatchOption result
-        (All (λ b. b ≢ 10) text.now)
-        (λ i. (i < length text.now) × (slice_index text.now i ≡ 10)
-        × All (λ b. b ≢ 10) (take i text.now)) }
+        (All (λ b. b ≢ line_feed) text.now)
+        (λ i. (i < length text.now) × (slice_index text.now i ≡ line_feed)
+        × All (λ b. b ≢ line_feed) (take i text.now)) }
 {
     text.iter().position(|byte| *byte == b'\n')
 }

@@ -29,7 +29,7 @@ impl fmt::Display for Wanted {
 /// Why a text is no import text.
 #[derive(Clone, Copy, PartialEq, Eq, Debug, Error)]
 pub enum FormRefused {
-    /// It has more than 65,536 bytes.
+    /// It has more than [`MOST_BYTES`](crate::MOST_BYTES) bytes.
     #[error("more than 65536 bytes")]
     TooLong,
     /// This line, counted from 1, is the first that is missing or is not what it should be.

@@ -1,6 +1,6 @@
 //! Rows of digits, and blank lines.
 ghost use Rattle.std.specs.Prelude.{◌≡◌, ℕ, ◌+◌, ◌<◌, ◌≤◌, [], ◌∷◌, ◌++◌, length, IsTrue, ◌↔◌, OnOk, All};
-ghost use Rattle.mt_import.specs.Lines.{is_blank, without_blanks};
+ghost use Rattle.mt_import.specs.Lines.{digit_zero, is_blank, without_blanks};
 ghost use Rattle.mt_import.specs.Texts.{IsRow, IsBlankLine, digits_of};
 
 use crate::lines::is_blank;
@@ -24,7 +24,7 @@ fn count_marks(line: &[u8]) -> usize
 // Whether all bytes but blanks are digits below `q`.
 fn are_digits(line: &[u8], q: u8) -> bool
     requires { q ≤ 9 }
-    ensures { IsTrue result ↔ All (λ b. (48 ≤ b) × (b < 48 + q)) (without_blanks line.now) }
+    ensures { IsTrue result ↔ All (λ b. (digit_zero ≤ b) × (b < digit_zero + q)) (without_blanks line.now) }
 {
     for byte in line {
         if !is_blank(*byte) && !is_digit(*byte, q) {
@@ -36,14 +36,14 @@ fn are_digits(line: &[u8], q: u8) -> bool
 
 fn is_digit(byte: u8, q: u8) -> bool
     requires { q ≤ 9 }
-    ensures { IsTrue result ↔ ((48 ≤ byte) × (byte < 48 + q)) }
+    ensures { IsTrue result ↔ ((digit_zero ≤ byte) × (byte < digit_zero + q)) }
 {
     (b'0'..b'0' + q).contains(&byte)
 }
 
 /// Adds the digits of a row.
 pub fn push_digits(line: &[u8], digits: &mut Vec<u8>) -> Result<(), AllocError>
-    requires row { All (λ b. 48 ≤ b) (without_blanks line.now) }
+    requires row { All (λ b. digit_zero ≤ b) (without_blanks line.now) }
     ensures added { OnOk result (digits.new.items ≡ digits.old.items ++ digits_of line.now) }
 {
     for byte in line {

@@ -8,7 +8,7 @@ use mt_linear::Order;
 use std::alloc::{AllocError, Global};
 
 /// The sizes of a system.
-#[derive(Clone, Copy)]
+#[derive(Clone, Copy, PartialEq, Eq, Debug)]
 pub struct Sizes {
     pub order: Order,
     pub columns: u8,
@@ -64,15 +64,11 @@ pub fn make<F: Formula>(alloc: Global, formula: &F) -> Result<System, AllocError
         );
         digits.push(digit)?;
     }
-    let system = System::new(
+    Ok(System::of_elements(
         sizes.order,
         sizes.columns,
         sizes.coordinates,
         sizes.depth,
         digits,
-    );
-    match system {
-        Ok(system) => Ok(system),
-        Err(_) => unreachable!(),
-    }
+    ))
 }

@@ -5,11 +5,11 @@ use Rattle.mt_system.proofs.formula.make.Goals as goal
 
 pub returns : goal.returns
 returns g c =
-    subst (λ z. HasDigits c.in-Ok.system z.order z.columns z.coordinates z.depth (g.F.Formula.digit_of c.args.formula.now))
+    subst (λ z. HasDigits c.of_elements.result z.order z.columns z.coordinates z.depth (g.F.Formula.digit_of c.args.formula.now))
     c.sizes-sizes.ensures
     (subst (λ a. HasDigits a c.sizes-sizes.result.order c.sizes-sizes.result.columns c.sizes-sizes.result.coordinates c.sizes-sizes.result.depth
     (g.F.Formula.digit_of c.args.formula.now))
-    (sym c.in-Ok.ensures)
+    (sym c.of_elements.ensures)
     (digits_from_items c.sizes-sizes.result.order c.sizes-sizes.result.columns c.sizes-sizes.result.coordinates c.sizes-sizes.result.depth
     c.loop-place.digits.items (g.F.Formula.digit_of c.args.formula.now)
-    (λ k h. c.loop-place.invariant.2 k (omega (arith, h, c.loop-place-test.false)))))
+    (λ k h. c.loop-place.invariant.values k (omega (arith, h, c.loop-place-test.false)))))

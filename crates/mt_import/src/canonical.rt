@@ -1,6 +1,8 @@
 //! The canonical text of a claim.
 ghost use Rattle.std.specs.Prelude.{◌≡◌, ℕ, ◌+◌, ◌*◌, ◌<◌, ◌≤◌, ◌∷◌, ◌++◌, length, map, flat_map, decimal, All, IfOk, OnOk};
 ghost use Rattle.mt_system.specs.Statements.{statement_of};
+ghost use Rattle.mt_import.specs.declared.import_text.TheConstants.{MOST_BYTES};
+ghost use Rattle.mt_import.specs.Lines.{space, digit_zero};
 ghost use Rattle.mt_import.specs.Headers.{form_word, numbers_by};
 ghost use Rattle.mt_import.specs.Canonical.{header_of, rows_text, canonical_text, IsTextOf};
 
@@ -10,7 +12,7 @@ use std::alloc::{AllocError, Global};
 /// The canonical text of the claim.
 pub fn print_import(alloc: Global, claim: &Claim) -> Result<Vec<u8>, AllocError>
     ensures text { IfOk result (λ t. t.items ≡ canonical_text (statement_of claim.now)) }
-    ensures reads { IfOk result (λ t. length t.items ≤ 65536
+    ensures reads { IfOk result (λ t. length t.items ≤ MOST_BYTES
         → IsTextOf t.items (statement_of claim.now)) }
 {
     let mut text = Vec::from_slice(alloc, form_word(claim.form))?;
@@ -36,7 +38,7 @@ fn form_word(form: Form) -> &'static [u8]
 // Adds the numbers of the header, with a space before each.
 fn push_sizes(alloc: Global, text: &mut Vec<u8>, claim: &Claim) -> Result<(), AllocError>
     ensures { OnOk result (text.new.items ≡ text.old.items
-        ++ flat_map (λ n. 32 ∷ decimal n) (numbers_by claim.now.form (header_of (statement_of claim.now)))) }
+        ++ flat_map (λ n. space ∷ decimal n) (numbers_by claim.now.form (header_of (statement_of claim.now)))) }
 {
     let system = &claim.system;
     let (q, m, s) = (system.order().number(), system.m(), system.s());
@@ -49,7 +51,7 @@ fn push_sizes(alloc: Global, text: &mut Vec<u8>, claim: &Claim) -> Result<(), Al
 // Adds the numbers in decimal, with a space before each.
 fn push_numbers(alloc: Global, text: &mut Vec<u8>, numbers: &[u8]) -> Result<(), AllocError>
     ensures { OnOk result (text.new.items ≡ text.old.items
-        ++ flat_map (λ n. 32 ∷ decimal n) numbers.now) }
+        ++ flat_map (λ n. space ∷ decimal n) numbers.now) }
 {
     for number in numbers {
         text.push(b' ')?;
@@ -84,7 +86,7 @@ fn push_rows(text: &mut Vec<u8>, digits: &[u8], m: u8) -> Result<(), AllocError>
 // Adds the digits as characters.
 fn push_row(text: &mut Vec<u8>, row: &[u8]) -> Result<(), AllocError>
     requires { All (λ d. d < 10) row.now }
-    ensures { OnOk result (text.new.items ≡ text.old.items ++ map (λ d. 48 + d) row.now) }
+    ensures { OnOk result (text.new.items ≡ text.old.items ++ map (λ d. digit_zero + d) row.now) }
 {
     for digit in row {
         text.push(b'0' + *digit)?;

@@ -1,6 +1,6 @@
 use Rattle.std.proofs.Common.{ℕ, ◌≤◌, List, length}
 use Rattle.mt_import.specs.Reading.{TakesRows}
-use Rattle.mt_import.proofs.reading.pass_rows.Given as goal
+use Rattle.mt_import.proofs.import_text.pass_rows.Given as goal
 
 abbrev pub invariant-loop-passed : goal.invariant-loop-passed
 invariant-loop-passed l = record {

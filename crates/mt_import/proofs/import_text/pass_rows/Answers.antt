@@ -1,6 +1,6 @@
 use Rattle.std.proofs.Common.{◌∷◌, [], ◌++◌, arith}
 use Rattle.mt_import.proofs.ReadingLemmas.{takes_more}
-use Rattle.mt_import.proofs.reading.pass_rows.Goals as goal
+use Rattle.mt_import.proofs.import_text.pass_rows.Goals as goal
 
 pub loop-passed-preserved : goal.loop-passed-preserved
 loop-passed-preserved c =

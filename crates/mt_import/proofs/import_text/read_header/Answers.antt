@@ -1,7 +1,7 @@
 use Rattle.std.proofs.Common.{◌≡◌, subst}
 use Rattle.mt_import.specs.Headers.{IsHeaderLine}
 use Rattle.mt_import.proofs.HeaderLemmas.{header_found}
-use Rattle.mt_import.proofs.reading.read_header.Goals as goal
+use Rattle.mt_import.proofs.import_text.read_header.Goals as goal
 
 pub returns-clause-only : goal.returns-clause-only
 returns-clause-only c = λ h has.

@@ -1,7 +1,7 @@
 use Rattle.std.proofs.Common.{◌≡◌, ℕ, ◌*◌, ◌<◌, ◌++◌, length, All}
 use Rattle.std.specs.Slice.Iter.{chunks_rest, chunks_size}
 use Rattle.mt_import.specs.Canonical.{rows_text}
-use Rattle.mt_import.proofs.printing.push_rows.Given as goal
+use Rattle.mt_import.proofs.canonical.push_rows.Given as goal
 
 abbrev pub invariant-loop-row : goal.invariant-loop-row
 invariant-loop-row l = record {

@@ -1,6 +1,6 @@
 use Rattle.std.proofs.Common.{◌≡◌, ℕ, ◌+◌, List, length}
 use Rattle.mt_import.proofs.ReadingLemmas.{TakesBlanks}
-use Rattle.mt_import.proofs.reading.read_end.Given as goal
+use Rattle.mt_import.proofs.import_text.read_end.Given as goal
 
 abbrev pub invariant-loop-line : goal.invariant-loop-line
 invariant-loop-line l = (blanks : List (List ℕ)) × TakesBlanks l.text l.rest blanks × (l.number ≡ l.first + length blanks)

@@ -1,13 +1,14 @@
-//! The reader of import texts.
-ghost use Rattle.std.specs.Prelude.{◌≡◌, ℕ, ◌+◌, ◌*◌, ◌<◌, ◌≤◌, List, ◌∷◌, ◌++◌, length, flat_map, All, Some, IfSome, IfErr, MatchOption, MatchResult, IfOk};
+//! Import texts, and what they say.
+ghost use Rattle.std.specs.Prelude.{◌≡◌, ℕ, ◌+◌, ◌*◌, ◌<◌, ◌≤◌, List, ◌∷◌, ◌++◌, length, flat_map, All, Some, IfSome, MatchOption, MatchResult, IfOk, OnOk};
 ghost use Rattle.mt_system.specs.Statements.{statement_of};
 ghost use Rattle.mt_import.specs.declared.headers.Header.{Header};
 ghost use Rattle.mt_import.specs.declared.refusals.FormRefused.{FormRefused};
+ghost use Rattle.mt_import.specs.declared.import_text.TheConstants.{MOST_BYTES};
 ghost use Rattle.mt_import.specs.Lines.{lines_of};
 ghost use Rattle.mt_import.specs.Headers.{IsHeader};
 ghost use Rattle.mt_import.specs.Texts.{IsRow, digits_of, IsBlankLine, HasNoRow, HasHeader, IsImport, IsRefusal};
 ghost use Rattle.mt_import.specs.Canonical.{header_of};
-ghost use Rattle.mt_import.specs.Reading.{StartsWith, IsReading, TakesRows, LacksRow, LacksBlank, IfRefused};
+ghost use Rattle.mt_import.specs.Reading.{StartsWith, IsReading, HasRows, row_lines, TakesRows, LacksRow, LacksBlank};
 
 use crate::headers::{Header, read_line};
 use crate::lines::split_line;
@@ -15,10 +16,66 @@ use crate::refusals::{FormRefused, ImportRefused, Wanted};
 use crate::rows::{is_blank_line, is_row, push_digits};
 use mt_linear::Order;
 use mt_system::{Claim, System};
-use std::alloc::Global;
+use std::alloc::{AllocError, Global};
+use std::marker::Model;
 
-// How many bytes a text may have.
-const MOST: usize = 65536;
+/// How many bytes a text may have.
+pub const MOST_BYTES: usize = 65_536;
+
+/// A text that is an import text: its header is known, and its rows can be read.
+#[derive(Drop)]
+pub struct ImportText<'a> {
+    header: Header,
+    // The text behind the header.
+    rows: &'a [u8],
+}
+
+impl<'a> Model for ImportText<'a> {
+    ghost use Rattle.mt_import.specs.Reading.{Said, HasRows, said_by};
+
+    ghost Value = { Said };
+
+    ghost view = { λ t. said_by t.header t.rows.now };
+
+    ghost invariant = { λ t. HasRows t.header t.rows.now };
+}
+
+impl<'a> ImportText<'a> {
+    /// The text, or why it is no import text: it has more than [`MOST_BYTES`] bytes, or this is the
+    /// first refused line.
+    pub fn of(bytes: &'a [u8]) -> Result<ImportText<'a>, FormRefused>
+        ensures { MatchResult result (λ t. IsImport bytes.now t.header t.digits)
+            (IsRefusal bytes.now) }
+    {
+        let (header, rows) = match read_start(bytes) {
+            Ok(start) => start,
+            Err(refused) => return Err(refused),
+        };
+        let rest = pass_rows(rows, &header)?;
+        read_end(rest, count_rows(&header) + 2)?;
+        Ok(ImportText { header, rows })
+    }
+
+    /// Its header.
+    pub fn header(&self) -> Header
+        ensures value { result ≡ self.now.header }
+        ensures header { IsHeader self.now.header }
+    {
+        self.header
+    }
+
+    /// Its claim.
+    pub fn claim(&self, alloc: Global) -> Result<Claim, AllocError>
+        requires columns { self.now.header.m < 256 }
+        requires coordinates { self.now.header.s < 256 }
+        requires depth { self.now.header.depth < 256 }
+        ensures header { IfOk result (λ c. header_of (statement_of c) ≡ self.now.header) }
+        ensures digits { IfOk result (λ c. c.system.digits ≡ self.now.digits) }
+    {
+        let digits = read_rows(alloc, self.rows, &self.header)?;
+        Ok(claim_of(&self.header, digits))
+    }
+}
 
 /// The header on line 1, or `None` where there is none. What stands behind line 1 does not matter.
 pub fn read_header(bytes: &[u8]) -> Option<Header>
@@ -29,42 +86,37 @@ pub fn read_header(bytes: &[u8]) -> Option<Header>
     read_line(line)
 }
 
-/// Whether this is an import text. Else it answers why it is none: more than 65,536 bytes, or the
-/// first refused line.
+/// Whether this is an import text. Else it answers why it is none, as [`ImportText::of`] does.
 pub fn in_grammar(bytes: &[u8]) -> Result<(), FormRefused>
     ensures { MatchResult result
         (λ _. (h : Header) × (digits : List ℕ) × IsImport bytes.now h digits)
         (IsRefusal bytes.now) }
 {
-    let (header, rest) = match read_start(bytes) {
-        Ok(start) => start,
-        Err(refused) => return Err(refused),
-    };
-    let rest = pass_rows(rest, &header)?;
-    read_end(rest, count_rows(&header) + 2)
+    match ImportText::of(bytes) {
+        Ok(_) => Ok(()),
+        Err(refused) => Err(refused),
+    }
 }
 
-/// The claim of an import text, or why it is none, as [`in_grammar`] says.
+/// The claim of an import text, or why it is none, as [`ImportText::of`] says.
 pub fn read_import(alloc: Global, bytes: &[u8]) -> Result<Claim, ImportRefused>
     requires { (h : Header) → HasHeader bytes.now h → (h.m < 256) × (h.s < 256) × (h.depth < 256) }
     ensures { IsReading bytes.now result }
 {
-    let (header, rest) = match read_start(bytes) {
-        Ok(start) => start,
-        Err(refused) => return Err(ImportRefused::Form(refused)),
-    };
-    let (digits, rest) = read_rows(alloc, rest, &header)?;
-    read_end(rest, count_rows(&header) + 2)?;
-    Ok(claim_of(&header, digits))
+    match ImportText::of(bytes) {
+        Ok(text) => Ok(text.claim(alloc)?),
+        Err(refused) => Err(ImportRefused::Form(refused)),
+    }
 }
 
 // The header, and the text behind line 1.
 fn read_start(bytes: &[u8]) -> Result<(Header, &[u8]), FormRefused>
     ensures { MatchResult result
-        (λ r. (length bytes.now ≤ 65536) × (length r.1.now ≤ 65536) × StartsWith bytes.now r.0 r.1.now)
+        (λ r. (length bytes.now ≤ MOST_BYTES) × (length r.1.now ≤ MOST_BYTES)
+        × StartsWith bytes.now r.0 r.1.now)
         (IsRefusal bytes.now) }
 {
-    if bytes.len() > MOST {
+    if bytes.len() > MOST_BYTES {
         return Err(FormRefused::TooLong);
     }
     let refused = FormRefused::Line {
@@ -100,27 +152,21 @@ fn pass_rows<'a>(text: &'a [u8], header: &Header) -> Result<&'a [u8], FormRefuse
     Ok(rest)
 }
 
-// The digits of the rows, and the text behind them.
-fn read_rows<'a>(
-    alloc: Global,
-    text: &'a [u8],
-    header: &Header,
-) -> Result<(Vec<u8>, &'a [u8]), ImportRefused>
-    requires { IsHeader header.now }
-    ensures { MatchResult result
-        (λ r. (length r.1.now ≤ length text.now) × ((rows : List (List ℕ))
-        × TakesRows header.now (header.now.s * header.now.depth) text.now r.1.now rows
-        × (r.0.items ≡ flat_map digits_of rows)))
-        (IfRefused (LacksRow header.now (header.now.s * header.now.depth) text.now)) }
+// The digits of the rows.
+fn read_rows(alloc: Global, text: &[u8], header: &Header) -> Result<Vec<u8>, AllocError>
+    requires { HasRows header.now text.now }
+    ensures { IfOk result (λ digits. digits.items ≡ flat_map digits_of (row_lines header.now text.now)) }
 {
     let mut digits = Vec::new(alloc);
     let mut rest = text;
     for passed in 0..count_rows(header) {
-        let (row, behind) = split_row(rest, header, passed + 2)?;
+        let Some((row, behind)) = split_line(rest) else {
+            unreachable!()
+        };
         push_digits(row, &mut digits)?;
         rest = behind;
     }
-    Ok((digits, rest))
+    Ok(digits)
 }
 
 // The row on the first line, and the text behind it. The line has this number.
@@ -149,7 +195,7 @@ fn split_row<'a>(
 
 // Whether all lines are blank. The first has this number.
 fn read_end(text: &[u8], first: u32) -> Result<(), FormRefused>
-    requires short { length text.now ≤ 65536 }
+    requires short { length text.now ≤ MOST_BYTES }
     requires small { first < 2000000 }
     ensures { MatchResult result (λ _. All IsBlankLine (lines_of text.now))
         (LacksBlank first text.now) }

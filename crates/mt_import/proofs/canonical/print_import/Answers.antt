@@ -3,7 +3,7 @@ use Rattle.mt_system.specs.Statements.{statement_of}
 use Rattle.mt_import.specs.Headers.{form_word, numbers_by}
 use Rattle.mt_import.specs.Canonical.{rows_text, canonical_text, header_of}
 use Rattle.mt_import.proofs.CanonicalLemmas.{canonical_is_import, join_with_byte-header}
-use Rattle.mt_import.proofs.printing.print_import.Goals as goal
+use Rattle.mt_import.proofs.canonical.print_import.Goals as goal
 
 pub returns : goal.returns
 returns c =

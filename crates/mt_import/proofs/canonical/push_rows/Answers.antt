@@ -4,7 +4,7 @@ use Rattle.std.proofs.lemmas.List.{drop_at}
 use Rattle.std.specs.Slice.Iter.{chunks_rest}
 use Rattle.mt_import.specs.Canonical.{rows_text}
 use Rattle.mt_import.proofs.CanonicalLemmas.{next_row, no_row}
-use Rattle.mt_import.proofs.printing.push_rows.Goals as goal
+use Rattle.mt_import.proofs.canonical.push_rows.Goals as goal
 
 pub loop-row-preserved : goal.loop-row-preserved
 loop-row-preserved c =
