@@ -7,10 +7,11 @@ use Rattle.mt_linear.specs.declared.order.Order.{Order}
 use Rattle.mt_linear.specs.declared.order.Order.TheVariants.{Q2, Q3, Q4, Q5, Q7, Q8, Q9}
 use Rattle.mt_linear.specs.Field.{number_of}
 use Rattle.mt_cells.specs.declared.bounds.Bounds.{Bounds}
+use Rattle.mt_cells.specs.declared.bounds.TheConstants.{MOST_COLUMNS, MOST_COORDINATES, MOST_ARRAYS, MOST_CELLS}
 use Rattle.mt_cells.specs.declared.cells.Cell.{Cell}
 use Rattle.mt_cells.specs.declared.cells.Cell.TheVariants.{Ooa, Seq}
 use Rattle.mt_cells.specs.Cells.{InBounds, order_of, Before, place_of, triangle, arrays_of, per_order_of, cells_of, number}
-use Rattle.mt_cells.proofs.Triangles.{triangle-suc, triangle_le, triangle_17}
+use Rattle.mt_cells.proofs.Triangles.{triangle-suc, triangle_half, triangle_le}
 
 -- a greater first digit outweighs the rest
 pub radix_lt : (n a x b : ℕ) → x < n → a < b → a * n + x < b * n
@@ -101,13 +102,13 @@ inner_below b (Seq o m s) h =
 pub number_below : (b : Bounds) (c : Cell) → InBounds b c → number b c < cells_of b
 number_below b c h = rw (number_is b c) (radix_lt (per_order_of b) (place_of (order_of c)) (inner b c) 7 (inner_below b c h) (place_below (order_of c)))
 
-pub cells_high : (b : Bounds) → cells_of b ≤ 34048
+pub cells_high : (b : Bounds) → cells_of b ≤ MOST_CELLS
 cells_high b =
     let m_high = b.m_high in
-    let s_high = b.s_high in
-    let most : triangle (b.m_max + 1) ≤ triangle 17 = triangle_le (b.m_max + 1) 17 (omega arith) in
-    let arrays : b.s_max * triangle (b.m_max + 1) ≤ 32 * 136 = mul-le b.s_max (triangle (b.m_max + 1)) 32 136 s_high (omega (arith, triangle_17)) in
-    let sequences : b.m_max * b.s_max ≤ 16 * 32 = mul-le b.m_max b.s_max 16 32 m_high s_high in
+    let sum : MOST_COLUMNS * (MOST_COLUMNS + 1) / 2 ≡ triangle (MOST_COLUMNS + 1) = triangle_half (MOST_COLUMNS + 1) (omega arith) in
+    let most : triangle (b.m_max + 1) ≤ triangle (MOST_COLUMNS + 1) = triangle_le (b.m_max + 1) (MOST_COLUMNS + 1) (omega arith) in
+    let arrays : b.s_max * triangle (b.m_max + 1) ≤ MOST_ARRAYS = mul-le b.s_max (triangle (b.m_max + 1)) MOST_COORDINATES (MOST_COLUMNS * (MOST_COLUMNS + 1) / 2) b.s_high (omega arith) in
+    let sequences : b.m_max * b.s_max ≤ MOST_COLUMNS * MOST_COORDINATES = mul-le b.m_max b.s_max MOST_COLUMNS MOST_COORDINATES m_high b.s_high in
     omega arith
 
 -- ---- the numbers go up with the order of cells

@@ -4,6 +4,7 @@ use Rattle.std.proofs.Math.Nat.{mul-le-mul_right}
 use Rattle.std.proofs.lemmas.Bool.{cases_lt, cases_eq, cases_Bool}
 use Rattle.std.proofs.lemmas.Nat.{mul-le}
 use Rattle.mt_cells.specs.declared.bounds.Bounds.{Bounds}
+use Rattle.mt_cells.specs.declared.bounds.TheConstants.{MOST_COLUMNS}
 use Rattle.mt_cells.specs.declared.cells.Cell.{Cell}
 use Rattle.mt_cells.specs.declared.cells.Cell.TheVariants.{Ooa, Seq}
 use Rattle.mt_cells.specs.declared.rules.Rule.{Rule}
@@ -85,13 +86,13 @@ top_low b (stage.Single r) = omega arith
 top_low b stage.End = omega arith
 top_low b g = b.m_low
 
-top_high : (b : Bounds) (g : Stage) → top b g ≤ 16
+top_high : (b : Bounds) (g : Stage) → top b g ≤ MOST_COLUMNS
 top_high b (stage.Single r) = omega arith
 top_high b stage.End = omega arith
 top_high b g = b.m_high
 
 pub position_small : (b : Bounds) (g : Stage) (m d : ℕ) → IsPosition b g m d → (m < 32) × (d < 32)
-position_small b g m d p = let h : top b g ≤ 16 = top_high b g in (omega arith, omega arith)
+position_small b g m d p = let h : top b g ≤ MOST_COLUMNS = top_high b g in (omega arith, omega arith)
 
 -- no rank is above that of the end
 pub rank_high : (g : Stage) → rank g ≤ rank stage.End
@@ -104,13 +105,13 @@ key_low b g m d p = let small = position_small b g m d p in omega (arith, rank_h
 
 -- no position stands between the last row of a column and the next column, or the last of a stage and the next stage
 pub column_next : (b : Bounds) (g h : Stage) (m d n e : ℕ) → IsPosition b g m d → IsPosition b h n e → m ≤ d → key g m d < key h n e → key g (m + 1) 1 ≤ key h n e
-column_next b g h m d n e p q f l = let high : top b g ≤ 16 = top_high b g in let high' : top b h ≤ 16 = top_high b h in omega arith
+column_next b g h m d n e p q f l = let high : top b g ≤ MOST_COLUMNS = top_high b g in let high' : top b h ≤ MOST_COLUMNS = top_high b h in omega arith
 
 pub stage_next : (b : Bounds) (c : Cell) (g k h : Stage) (m d n e : ℕ) → IsPosition b g m d → IsPosition b h n e → n ≤ reach b c h → rank k ≡ rank g + 1 → reach b c g ≤ m → m ≤ d → key g m d < key h n e → key k 1 1 ≤ key h n e
 stage_next b c g k h m d n e p q near r last f l = ⊎_elim
     (λ (x : rank g < rank h). omega arith)
     (λ (x : rank h ≤ rank g). absurd (
-    let high : top b h ≤ 16 = top_high b h in
+    let high : top b h ≤ MOST_COLUMNS = top_high b h in
     let a : rank h ≡ rank g = omega arith in
     let same : h ≡ g = sym (stage_back h) ∙ ap stage_of a ∙ stage_back g in
     let z : reach b c h ≡ reach b c g = ap (reach b c) same in

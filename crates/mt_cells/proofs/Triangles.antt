@@ -31,7 +31,3 @@ triangle_le m (suc n) h = elim (cases_lt m (suc n)) [
   | inl l ↦ let r : triangle m ≤ triangle n = triangle_le m n (omega arith) in omega arith
   | inr l ↦ let e : m ≡ suc n = omega arith in omega (arith, ap triangle e)
 ]
-
-pub triangle_17 : triangle 17 ≡ 136
-unfolding triangle
-triangle_17 = refl

@@ -1,3 +1,4 @@
+pub mod Texts
 pub mod Cells
 pub mod Laws
 pub mod Rules

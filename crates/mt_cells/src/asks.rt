@@ -1,10 +1,14 @@
 //! Questions to a table.
-ghost use Rattle.std.specs.Prelude.{◌≡◌, ◌≤◌, ◌↔◌, IsTrue};
+ghost use Rattle.std.specs.Prelude.{◌≡◌, ◌≢◌, ◌^◌, ◌<◌, ◌≤◌, ◌↔◌, MatchOption, IsTrue};
+ghost use Rattle.mt_cells.specs.declared.asks.Kind.{Kind};
 ghost use Rattle.mt_cells.specs.Asks.{cell_by, IsFrom1, IsAnswer};
+ghost use Rattle.mt_cells.specs.Texts.{kind_text};
 
 use crate::bounds::Bounds;
 use crate::cells::Cell;
 use mt_linear::Order;
+use std::error::Error;
+use std::fmt;
 
 /// The kinds of systems that are asked for.
 #[derive(Clone, Copy, PartialEq, Eq, Debug)]
@@ -17,6 +21,44 @@ pub enum Kind {
     Ooa,
     /// Digital sequences.
     Seq,
+}
+
+impl Kind {
+    /// The kind of this word.
+    pub fn of_word(word: &str) -> Option<Kind>
+        ensures { MatchOption result ((k : Kind) → word.now ≢ kind_text k)
+            (λ k. word.now ≡ kind_text k) }
+    {
+        match word {
+            "net" => Some(Kind::Net),
+            "oa" => Some(Kind::Oa),
+            "ooa" => Some(Kind::Ooa),
+            "seq" => Some(Kind::Seq),
+            _ => None,
+        }
+    }
+
+    /// The word of the kind.
+    pub fn word(self) -> &'static str
+        ensures { result.now ≡ kind_text self }
+    {
+        match self {
+            Kind::Net => "net",
+            Kind::Oa => "oa",
+            Kind::Ooa => "ooa",
+            Kind::Seq => "seq",
+        }
+    }
+}
+
+impl fmt::Display for Kind {
+    ghost use Rattle.std.specs.Prelude.{Some};
+
+    ghost output = { λ kind. Some (kind_text kind) };
+
+    fn fmt<W: fmt::Write>(&self, f: &mut fmt::Formatter<W>) -> fmt::Result {
+        f.write_str(self.word())
+    }
 }
 
 /// Sizes as they are asked for. `depth` is looked at for kind `Ooa` alone.
@@ -38,12 +80,42 @@ pub enum Part {
     Depth,
 }
 
+impl fmt::Display for Part {
+    ghost use Rattle.std.specs.Prelude.{Some};
+    ghost use Rattle.mt_cells.specs.Texts.{part_text};
+
+    ghost output = { λ part. Some (part_text part) };
+
+    fn fmt<W: fmt::Write>(&self, f: &mut fmt::Formatter<W>) -> fmt::Result {
+        match self {
+            Part::Q => f.write_str("q"),
+            Part::M => f.write_str("m"),
+            Part::S => f.write_str("s"),
+            Part::Depth => f.write_str("depth"),
+        }
+    }
+}
+
 /// The first part of a question that no cell has, and its number.
 #[derive(Clone, Copy, PartialEq, Eq, Debug)]
 pub struct Outside {
     pub name: Part,
     pub number: u64,
 }
+
+impl fmt::Display for Outside {
+    ghost use Rattle.std.specs.Prelude.{Some};
+    ghost use Rattle.mt_cells.specs.Texts.{outside_text};
+
+    ghost output = { λ outside. Some (outside_text outside.name outside.number) };
+
+    fn fmt<W: fmt::Write>(&self, f: &mut fmt::Formatter<W>) -> fmt::Result {
+        let (name, number) = (self.name, self.number);
+        write!(f, "outside: {name} {number}")
+    }
+}
+
+impl Error for Outside {}
 
 /// What is asked of a table.
 #[derive(Clone, Copy, PartialEq, Eq, Debug)]
@@ -97,8 +169,8 @@ impl Ask {
 
     // The cell over a field of this order.
     fn cell_of(&self, order: Order) -> Cell
-        requires m { self.now.m ≤ 16 }
-        requires s { self.now.s ≤ 32 }
+        requires m { self.now.m < 2 ^ 8 }
+        requires s { self.now.s < 2 ^ 8 }
         requires depth { self.now.kind ≡ Kind.Ooa → self.now.depth ≤ self.now.m }
         ensures { result ≡ cell_by self.now.kind order self.now }
     {

@@ -1,27 +1,46 @@
 //! The bounds of a table.
 ghost use Rattle.std.specs.Prelude.{◌≡◌, ◌≤◌, ◌↔◌, ◌+◌, ◌*◌, IsSome, IfSome};
+ghost use Rattle.mt_cells.specs.declared.bounds.TheConstants.{MOST_COLUMNS, MOST_COORDINATES};
 
-/// A table has cells with `m` from 1 to `m_max` and `s` from 1 to `s_max`.
+/// The most columns of a cell.
+pub const MOST_COLUMNS: u8 = 16;
+
+/// The most coordinates of a cell.
+pub const MOST_COORDINATES: u8 = 32;
+
+// At most how many arrays of one order a table has.
+pub(crate) const MOST_ARRAYS: u32 = MOST_COORDINATES as u32
+    * (MOST_COLUMNS as u32 * (MOST_COLUMNS as u32 + 1) / 2);
+
+// At most how many cells of one order a table has.
+pub(crate) const MOST_PER_ORDER: u32 = MOST_ARRAYS + MOST_COLUMNS as u32 * MOST_COORDINATES as u32;
+
+/// At most how many cells a table has.
+pub const MOST_CELLS: u32 = 7 * MOST_PER_ORDER;
+
+/// A table has cells with `m` from 1 to `m_max` and `s` from 1 to `s_max`, which are within the most
+/// columns and the most coordinates.
 #[derive(Clone, Copy, PartialEq, Eq, Debug)]
 pub struct Bounds {
     pub m_max: u8,
     pub s_max: u8,
     ghost m_low: { 1 ≤ m_max },
-    ghost m_high: { m_max ≤ 16 },
+    ghost m_high: { m_max ≤ MOST_COLUMNS },
     ghost s_low: { 1 ≤ s_max },
-    ghost s_high: { s_max ≤ 32 },
+    ghost s_high: { s_max ≤ MOST_COORDINATES },
 }
 
 impl Bounds {
     ghost use Rattle.mt_cells.specs.Cells.{triangle, arrays_of, per_order_of, cells_of};
 
-    /// The bounds of these numbers: `None` outside 1 to 16 and 1 to 32.
+    /// The bounds of these numbers: `None` where one is 0 or over its limit.
     pub fn new(m: u64, s: u64) -> Option<Bounds>
-        ensures taken { IsSome result ↔ ((1 ≤ m) × (m ≤ 16) × (1 ≤ s) × (s ≤ 32)) }
+        ensures taken { IsSome result
+            ↔ ((1 ≤ m) × (m ≤ MOST_COLUMNS) × (1 ≤ s) × (s ≤ MOST_COORDINATES)) }
         ensures m { IfSome result (λ b. b.m_max ≡ m) }
         ensures s { IfSome result (λ b. b.s_max ≡ s) }
     {
-        if m < 1 || m > 16 || s < 1 || s > 32 {
+        if m < 1 || m > MOST_COLUMNS as u64 || s < 1 || s > MOST_COORDINATES as u64 {
             return None;
         }
         Some(Bounds {
@@ -42,7 +61,7 @@ impl Bounds {
     pub(crate) fn per_order(self) -> u32
         ensures value { result ≡ per_order_of self }
         ensures low { 1 ≤ result }
-        ensures high { result ≤ 4864 }
+        ensures high { result ≤ MOST_PER_ORDER }
     {
         self.arrays() + self.m_max as u32 * self.s_max as u32
     }
@@ -51,7 +70,7 @@ impl Bounds {
     #[inline(always)]
     pub(crate) fn arrays(self) -> u32
         ensures value { result ≡ arrays_of self }
-        ensures high { result ≤ 4352 }
+        ensures high { result ≤ MOST_ARRAYS }
     {
         self.arrays_below(self.m_max + 1)
     }
@@ -62,7 +81,7 @@ impl Bounds {
         requires low { 1 ≤ m }
         requires high { m ≤ self.m_max + 1 }
         ensures value { result ≡ self.s_max * triangle m }
-        ensures high { result ≤ 4352 }
+        ensures high { result ≤ MOST_ARRAYS }
     {
         self.s_max as u32 * (m as u32 * (m as u32 - 1) / 2)
     }

@@ -2,8 +2,10 @@
 ghost use Rattle.std.specs.Prelude.{◌≡◌, ◌+◌, ◌*◌, ◌<◌, ◌≤◌, ◌↔◌, IsSome, IfSome};
 ghost use Rattle.mt_cells.specs.Cells.{InBounds, columns_of, order_of, number, place_of, arrays_of, per_order_of, cells_of};
 
+use crate::asks::Kind;
 use crate::bounds::Bounds;
 use mt_linear::Order;
+use std::fmt;
 
 /// A place in the table.
 #[derive(Clone, Copy, PartialEq, Eq, Debug)]
@@ -88,6 +90,26 @@ impl Cell {
             array_at(bounds, order, before)
         } else {
             sequence_at(bounds, order, before - bounds.arrays())
+        }
+    }
+}
+
+impl fmt::Display for Cell {
+    ghost use Rattle.std.specs.Prelude.{Some};
+    ghost use Rattle.mt_cells.specs.Texts.{cell_text};
+
+    ghost output = { λ cell. Some (cell_text cell) };
+
+    fn fmt<W: fmt::Write>(&self, f: &mut fmt::Formatter<W>) -> fmt::Result {
+        match *self {
+            Cell::Ooa { order, m, s, depth } => {
+                let (kind, q) = (Kind::Ooa, order.number());
+                write!(f, "{kind} {q} {m} {s} {depth}")
+            }
+            Cell::Seq { order, m, s } => {
+                let (kind, q) = (Kind::Seq, order.number());
+                write!(f, "{kind} {q} {m} {s}")
+            }
         }
     }
 }

@@ -37,7 +37,7 @@ impl Instance {
 }
 
 /// The instances of a parent, seen as the list of those that are left.
-#[derive(Drop)]
+#[derive(Debug, Drop)]
 pub struct Instances {
     lines: Lines,
     line: Line,
@@ -103,7 +103,7 @@ impl Iterator for Instances {
     }
 }
 
-/// More instances than any cell is a parent of.
+/// At least as many instances as any cell is a parent of.
 pub fn fan(bounds: Bounds) -> u64
     ensures { result ≡ fan_of bounds }
 {

@@ -14,7 +14,7 @@ mod rules;
 mod tests;
 
 pub use asks::{Ask, Kind, Outside, Part, Question};
-pub use bounds::Bounds;
+pub use bounds::{Bounds, MOST_CELLS, MOST_COLUMNS, MOST_COORDINATES};
 pub use cells::Cell;
 pub use instances::{Instance, Instances, conclude, fan, instances_of_parent};
 pub use lines::{Line, Lines, Stage, lines_of_parent};

@@ -217,7 +217,7 @@ impl Lines {
 
     // Whether the rule is configured, and a cell with this m leaves room for the columns.
     fn pairs(&self, rule: Rule, m: u8) -> bool
-        requires { m ≤ 16 }
+        requires { m ≤ self.now.bounds.m_max }
         ensures { IsTrue result ↔ ((has_rule self.now.rules rule ≡ true)
             × (m + self.now.m ≤ self.now.bounds.m_max)) }
     {

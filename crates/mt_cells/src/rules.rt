@@ -3,6 +3,8 @@ ghost use Rattle.std.specs.Prelude.{◌≡◌, true};
 ghost use Rattle.mt_cells.specs.declared.rules.Rule.{Rule};
 ghost use Rattle.mt_cells.specs.Instances.{has_rule};
 
+use std::fmt;
+
 /// A propagation rule: from a system of a parent, or of two, it makes one of its target.
 #[derive(Clone, Copy, PartialEq, Eq, Debug)]
 pub enum Rule {
@@ -31,6 +33,29 @@ pub enum Rule {
     /// The (u,u+v) construction of two arrays over one field, of which the first has no more
     /// coordinates. Zero rows bring it to the depth of the second.
     Uuv,
+}
+
+impl fmt::Display for Rule {
+    ghost use Rattle.std.specs.Prelude.{Some};
+    ghost use Rattle.mt_cells.specs.Texts.{rule_text};
+
+    ghost output = { λ rule. Some (rule_text rule) };
+
+    fn fmt<W: fmt::Write>(&self, f: &mut fmt::Formatter<W>) -> fmt::Result {
+        match self {
+            Rule::Fewer => f.write_str("fewer"),
+            Rule::Shallower => f.write_str("shallower"),
+            Rule::Deeper => f.write_str("deeper"),
+            Rule::Longer => f.write_str("longer"),
+            Rule::QuotientKeep => f.write_str("quotient_keep"),
+            Rule::QuotientDrop => f.write_str("quotient_drop"),
+            Rule::SeqFewer => f.write_str("seq_fewer"),
+            Rule::SeqCut => f.write_str("seq_cut"),
+            Rule::SeqToNet => f.write_str("seq_to_net"),
+            Rule::Product => f.write_str("product"),
+            Rule::Uuv => f.write_str("uuv"),
+        }
+    }
 }
 
 /// The rules that a table uses.

@@ -5,15 +5,24 @@ use std::test::Fail;
 
 #[test]
 fn cells_and_their_numbers(rt: HostRuntime) -> Result<(), Fail> {
-    for (m, s) in [(0u64, 1u64), (1, 0), (17, 1), (1, 33), (256, 1), (1, 257)] {
+    let (m_over, s_over) = (MOST_COLUMNS as u64 + 1, MOST_COORDINATES as u64 + 1);
+    for (m, s) in [
+        (0u64, 1u64),
+        (1, 0),
+        (m_over, 1),
+        (1, s_over),
+        (256, 1),
+        (1, 257),
+    ] {
         assert!(rt; Bounds::new(m, s).is_none());
     }
     let least = Bounds::new(1, 1).ok_or("bounds")?;
     assert_eq!(rt; least.cells(), 14);
-    let bounds = Bounds::new(16, 32).ok_or("bounds")?;
+    let bounds = Bounds::new(MOST_COLUMNS as u64, MOST_COORDINATES as u64).ok_or("bounds")?;
     assert_eq!(rt; bounds.cells(), 34048);
-    assert!(rt; Cell::of_number(bounds, 34048).is_none());
-    for n in 0..34048u32 {
+    assert_eq!(rt; MOST_CELLS, 34048);
+    assert!(rt; Cell::of_number(bounds, MOST_CELLS).is_none());
+    for n in 0..MOST_CELLS {
         let cell = Cell::of_number(bounds, n).ok_or("no cell")?;
         assert_eq!(rt; cell.number(bounds), n);
         assert!(rt; cell.columns() <= bounds.m_max);
@@ -61,5 +70,32 @@ fn answers_to_asks(rt: HostRuntime) -> Result<(), Fail> {
         };
         assert_eq!(rt; ask.cell(bounds), answer);
     }
+    Ok(())
+}
+
+#[test]
+fn words(rt: HostRuntime) -> Result<(), Fail> {
+    let outside = Outside {
+        name: Part::Depth,
+        number: 18,
+    };
+    assert_eq!(rt;
+        outside.to_string(rt.alloc())?.as_str(),
+        "outside: depth 18"
+    );
+    let order = Order::Q2;
+    let array = Cell::Ooa {
+        order,
+        m: 3,
+        s: 10,
+        depth: 2,
+    };
+    assert_eq!(rt; array.to_string(rt.alloc())?.as_str(), "ooa 2 3 10 2");
+    let sequence = Cell::Seq { order, m: 3, s: 10 };
+    assert_eq!(rt; sequence.to_string(rt.alloc())?.as_str(), "seq 2 3 10");
+    let rule = Rule::QuotientKeep;
+    assert_eq!(rt; rule.to_string(rt.alloc())?.as_str(), "quotient_keep");
+    let kind = Kind::of_word("ooa").ok_or("no kind")?;
+    assert_eq!(rt; kind.to_string(rt.alloc())?.as_str(), "ooa");
     Ok(())
 }
