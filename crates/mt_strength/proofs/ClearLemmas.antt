@@ -1,5 +1,5 @@
 -- What clearing all rows that may follow leaves.
-use Rattle.std.proofs.Common.{◌≡◌, ◌≢◌, inl, inr, ℕ, ◌+◌, ◌*◌, ◌<◌, ◌≤◌, List, get_or, sym, ap, ◌∙◌, subst, arith}
+use Rattle.std.proofs.Common.{◌≡◌, ◌≢◌, inl, inr, ℕ, zero, suc, ◌+◌, ◌-◌, ◌*◌, ◌<◌, ◌≤◌, List, get_or, sym, ap, ◌∙◌, subst, arith}
 use Rattle.std.proofs.lemmas.Bool.{cases_eq}
 use Rattle.std.proofs.Math.Nat.{mul-le-mul_right}
 use Rattle.mt_linear.specs.declared.order.Order.{Order}
@@ -7,7 +7,7 @@ use Rattle.mt_linear.specs.Field.{neg_of, inv_of}
 use Rattle.mt_strength.specs.Lanes.{IsLane, IsLanes, digit_of, digit_at}
 use Rattle.mt_strength.specs.Pivots.{HasMultiples, IsPivot, IsCleared}
 use Rattle.mt_strength.specs.Lanes.{row_at}
-use Rattle.mt_strength.specs.Walks.{IsLeft, clearing}
+use Rattle.mt_strength.specs.Walks.{IsLeft, SomeLeft, NoneLeft, HasNext, next_of, AreLeft, IsLastGone, clearing}
 use Rattle.mt_strength.proofs.ByteLemmas.{row_byte}
 
 pub first_byte : (rows : List ℕ) (place : ℕ) → place < 32 → get_or (row_at rows 0) place 0 ≡ get_or rows place 0
@@ -53,4 +53,29 @@ more_left o rows first i each place old new kept width left done before = record
         let below : (n + 1) * width ≤ i * width = mul-le-mul_right width (let h : n + 1 ≤ i = omega arith in h) in
         subst (λ (x : List ℕ). IsCleared o (row_at rows 0) place (clearing o rows place) (row_at rows (first + n * each + j)) x) (sym (before (kept + n * width + j) (omega arith))) (left.of_others n j (omega arith) m)
   ];
+}
+
+-- one coordinate more of which something is left
+pub one_left : (o : Order) (rows : List ℕ) (first others each place i : ℕ) → 0 < i → SomeLeft o rows place (first + (i - 1) * each) → AreLeft o rows first others each place (i + 1)
+    → AreLeft o rows first others each place (i - 1 + 1)
+one_left o rows first others each place i some left later zero l h = absurd (omega arith)
+one_left o rows first others each place i some left later (suc j) l h =
+    elim (cases_eq (suc j) i) [
+      | inl e ↦ subst (λ m. SomeLeft o rows place (first + m * each)) (let f : i - 1 ≡ j = omega arith in f) left
+      | inr ne ↦ later (suc j) (omega arith) h
+    ]
+
+-- the first coordinate last
+pub all_left : (o : Order) (rows : List ℕ) (first others each place i : ℕ) → i ≡ 0 → (1 < first → SomeLeft o rows place 1) → AreLeft o rows first others each place (i + 1)
+    → AreLeft o rows first others each place 0
+all_left o rows first others each place i none left later zero l h = left h
+all_left o rows first others each place i none left later (suc j) l h = later (suc j) (omega arith) h
+
+pub gone_at : (o : Order) (rows : List ℕ) (first others each place i : ℕ) → 0 < i → i ≤ others → 0 < each → NoneLeft o rows place (first + (i - 1) * each)
+    → AreLeft o rows first others each place (i + 1) → IsLastGone o rows first others each place i
+gone_at o rows first others each place zero some within rows_each none later = absurd (omega arith)
+gone_at o rows first others each place (suc i) some within rows_each none later = record {
+  next = (omega arith, rows_each);
+  gone = subst (λ m. NoneLeft o rows place (first + m * each)) (let e : suc i - 1 ≡ i = omega arith in e) none;
+  later = later;
 }

@@ -2,7 +2,6 @@
 use Rattle.std.specs.Prelude.{◌≡◌, ◌≢◌, ℕ, zero, suc, ◌+◌, ◌*◌, ◌<◌, ◌≤◌, List, ◌∷◌, length, map}
 use Rattle.mt_linear.specs.declared.order.Order.{Order}
 use Rattle.mt_linear.specs.Linear.{Independent}
-use Rattle.mt_system.specs.Rows.{rows_by}
 use Rattle.mt_linear.specs.Field.{add_of, mul_of, neg_of, inv_of}
 use Rattle.mt_strength.specs.Lanes.{row_at, IsLanes, digit_of, digit_at}
 use Rattle.mt_strength.specs.Pivots.{IsCleared}
@@ -22,9 +21,9 @@ pub record IsLaid (o : Order) (rows : List ℕ) (first others each : ℕ) : Type
 abbrev pub digits_in : Order → List ℕ → ℕ → ℕ → ℕ → ℕ → List ℕ
 digits_in o rows first each i j = map (digit_of o) (row_at rows (place_of first each i j))
 
--- each choice of at most n rows, one at least of the first coordinate
-abbrev pub FirstIndependent : Order → (ℕ → ℕ → List ℕ) → ℕ → ℕ → ℕ → ℕ → Type 0
-FirstIndependent o M first others each n = (c : ℕ) (cs : List ℕ) → IsTaken first others each n (suc c) cs → Independent o (rows_by M (suc c ∷ cs))
+-- each choice of at most n rows without a row of the first coordinate is independent
+abbrev pub OthersIndependent : Order → (List ℕ → List (List ℕ)) → ℕ → ℕ → ℕ → ℕ → Type 0
+OthersIndependent o R first others each n = (cs : List ℕ) → IsTaken first others each n 0 cs → Independent o (R (0 ∷ cs))
 
 -- with this factor the first row clears a place
 abbrev pub clearing : Order → List ℕ → ℕ → ℕ
@@ -43,12 +42,22 @@ SomeLeft o rows place j = (k : ℕ) × (add_of o (digit_at o (row_at rows j) k) 
 abbrev pub NoneLeft : Order → List ℕ → ℕ → ℕ → Type 0
 NoneLeft o rows place j = (k : ℕ) → add_of o (digit_at o (row_at rows j) k) (mul_of o (mul_of o (digit_at o (row_at rows j) place) (clearing o rows place)) (digit_at o (row_at rows 0) k)) ≡ 0
 
--- something is left of each row that may follow next
-pub record AreLeft (o : Order) (rows : List ℕ) (first others each place : ℕ) : Type 0 where
-  pub of_first : 1 < first → SomeLeft o rows place 1
-  pub of_others : (i : ℕ) → i < others → 0 < each → SomeLeft o rows place (first + i * each)
+-- the row of coordinate i that may come next to the first row of all
+abbrev pub next_of : ℕ → ℕ → ℕ → ℕ
+next_of first each zero = 1
+next_of first each (suc i) = first + i * each
 
--- it is not so that nothing is left of a row that may follow next
-pub record NoneGone (o : Order) (rows : List ℕ) (first others each place : ℕ) : Type 0 where
-  pub of_first : 1 < first → NoneLeft o rows place 1 → ⊥
-  pub of_others : (i : ℕ) → i < others → 0 < each → NoneLeft o rows place (first + i * each) → ⊥
+-- coordinate i has such a row
+abbrev pub HasNext : ℕ → ℕ → ℕ → ℕ → Type 0
+HasNext first others each zero = 1 < first
+HasNext first others each (suc i) = (i < others) × (0 < each)
+
+-- something is left of each row that may come next, from coordinate `from` on
+abbrev pub AreLeft : Order → List ℕ → ℕ → ℕ → ℕ → ℕ → ℕ → Type 0
+AreLeft o rows first others each place from = (i : ℕ) → from ≤ i → HasNext first others each i → SomeLeft o rows place (next_of first each i)
+
+-- nothing is left of that of coordinate i, the last such
+pub record IsLastGone (o : Order) (rows : List ℕ) (first others each place i : ℕ) : Type 0 where
+  pub next : HasNext first others each i
+  pub gone : NoneLeft o rows place (next_of first each i)
+  pub later : AreLeft o rows first others each place (i + 1)

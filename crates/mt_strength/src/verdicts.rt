@@ -5,7 +5,7 @@ ghost use Rattle.mt_strength.specs.Verdicts.{IsVerdict, IsVerdictAmong, IsGreate
 
 use crate::choice_rows::choice_rows;
 use crate::dependence::uncounted_dependence;
-use crate::searches::is_strong;
+use crate::searches::first_choice;
 use mt_linear::Vector;
 use mt_system::{Choice, System, next_choice};
 use std::alloc::{AllocError, Global};
@@ -37,10 +37,18 @@ pub(crate) fn first_dependent(
     ensures { IfOk result (IsVerdictAmong system.now.order system.now.coordinates depth k
         (rows_by (part_rows system.now width))) }
 {
-    if is_strong(alloc, system, width, depth, k)? {
-        return Ok(Verdict::Holds);
+    if width > 32 || k > 32 {
+        return first_in_turn(alloc, system, width, depth, k);
     }
-    first_in_turn(alloc, system, width, depth, k)
+    let Some(choice) = first_choice(alloc, system, width, depth, k)? else {
+        return Ok(Verdict::Holds);
+    };
+    let rows = choice_rows(alloc, system, width, depth, &choice)?;
+    let coefficients = uncounted_dependence(alloc, system.order(), width, &rows)?.unwrap();
+    Ok(Verdict::Dependent {
+        choice,
+        coefficients,
+    })
 }
 
 // The same, by one choice after another.

@@ -1,11 +1,11 @@
-// The walk over all choices, each decided by the rows that are left.
-ghost use Rattle.std.specs.Prelude.{◌≡◌, ◌≢◌, ℕ, ◌+◌, ◌*◌, ◌-◌, ◌<◌, ◌≤◌, length, slice_index, []};
+// The walk over all choices in the order of their lists, each decided by the rows that are left.
+ghost use Rattle.std.specs.Prelude.{◌≡◌, ◌≢◌, ℕ, ◌+◌, ◌*◌, ◌-◌, ◌<◌, ◌≤◌, length, slice_index, [], MatchOption};
 ghost use Rattle.std.specs.Bool.{OnTrue, OnFalse};
 ghost use Rattle.mt_system.specs.Rows.{rows_by};
 ghost use Rattle.mt_strength.specs.Lanes.{row_at, IsLanes, digit_at};
 ghost use Rattle.mt_strength.specs.Pivots.{IsPivot, IsCleared};
-ghost use Rattle.mt_strength.specs.Walks.{IsLaid, IsLeft, SomeLeft, NoneLeft, AreLeft, NoneGone, digits_in, FirstIndependent};
-ghost use Rattle.mt_strength.specs.Searches.{AllIndependent};
+ghost use Rattle.mt_strength.specs.Searches.{AllIndependent, IsFound};
+ghost use Rattle.mt_strength.specs.Walks.{IsLaid, IsLeft, SomeLeft, NoneLeft, AreLeft, IsLastGone, OthersIndependent, digits_in};
 
 use crate::byte_rows::{put_row, read_row};
 use crate::lanes::first_nonzero;
@@ -86,42 +86,6 @@ fn clear_all(
     }
 }
 
-// Whether something is left of each row that may follow the first next, once it is cleared.
-fn are_left(
-    order: Order,
-    place: usize,
-    rows: &[u8],
-    first: usize,
-    others: usize,
-    each: usize,
-    all: &mut [u8],
-) -> bool
-    requires laid { IsLaid order rows.now first others each }
-    requires some { 0 < first }
-    requires multiples { 288 ≤ length all.old }
-    requires place { place < 32 }
-    requires some_digit { digit_at order (row_at rows.now 0) place ≢ 0 }
-    ensures multiples { length all.new ≡ length all.old }
-    ensures left { OnTrue result (AreLeft order rows.now first others each place) }
-    ensures gone { OnFalse result (NoneGone order rows.now first others each place → ⊥) }
-{
-    let v = read_row(rows, 0);
-    let factor = factor_of(order, rows[place]);
-    fill_multiples(order, v, all);
-    if first > 1 && !is_left(order, v, place, factor, all, rows, 1) {
-        return false;
-    }
-    if each == 0 {
-        return true;
-    }
-    for i in 0..others {
-        if !is_left(order, v, place, factor, all, rows, first + i * each) {
-            return false;
-        }
-    }
-    true
-}
-
 // Whether something is left of row `j`, once it is cleared.
 #[inline(always)]
 fn is_left(
@@ -148,7 +112,75 @@ fn is_left(
     }
 }
 
-// Whether each choice of at most `n` rows is independent that has a row of the first coordinate.
+// The last coordinate of whose row that may come next nothing is left, once it is cleared.
+fn last_gone(
+    order: Order,
+    place: usize,
+    rows: &[u8],
+    first: usize,
+    others: usize,
+    each: usize,
+    all: &mut [u8],
+) -> Option<usize>
+    requires laid { IsLaid order rows.now first others each }
+    requires some { 0 < first }
+    requires multiples { 288 ≤ length all.old }
+    requires place { place < 32 }
+    requires some_digit { digit_at order (row_at rows.now 0) place ≢ 0 }
+    ensures multiples { length all.new ≡ length all.old }
+    ensures gone { MatchOption result (AreLeft order rows.now first others each place 0)
+        (IsLastGone order rows.now first others each place) }
+{
+    let v = read_row(rows, 0);
+    let factor = factor_of(order, rows[place]);
+    fill_multiples(order, v, all);
+    let mut i = if each == 0 { 0 } else { others };
+    while i > 0 {
+        let j = first + (i - 1) * each;
+        if !is_left(order, v, place, factor, all, rows, j) {
+            return Some(i);
+        }
+        i -= 1;
+    }
+    if first > 1 && !is_left(order, v, place, factor, all, rows, 1) {
+        return Some(0);
+    }
+    None
+}
+
+// As `walk_first`, for choices of at most two rows, where the first row is not zero.
+fn walk_pairs(
+    order: Order,
+    place: usize,
+    rows: &[u8],
+    first: usize,
+    others: usize,
+    each: usize,
+    sizes: &mut [u8],
+    all: &mut [u8],
+) -> bool
+    requires laid { IsLaid order rows.now first others each }
+    requires some { 0 < first }
+    requires sizes { length sizes.old ≡ 1 + others }
+    requires multiples { 288 ≤ length all.old }
+    requires place { place < 32 }
+    requires some_digit { digit_at order (row_at rows.now 0) place ≢ 0 }
+    requires others { OthersIndependent order (rows_by (digits_in order rows.now first each)) first others each 2 }
+    ensures independent { OnTrue result (AllIndependent order (rows_by (digits_in order rows.now first each)) first others each 2) }
+    ensures found { OnFalse result (IsFound order (rows_by (digits_in order rows.now first each)) first others each 2 sizes.new) }
+    ensures size { length sizes.new ≡ length sizes.old }
+    ensures multiples { length all.new ≡ length all.old }
+{
+    let Some(i) = last_gone(order, place, rows, first, others, each, all) else {
+        return true;
+    };
+    sizes.fill(0);
+    sizes[i] = 1;
+    sizes[0] += 1;
+    false
+}
+
+// As `walk`, where each choice without a row of the first coordinate is known to be independent.
 #[cycle(walking)]
 fn walk_first(
     order: Order,
@@ -157,27 +189,34 @@ fn walk_first(
     others: usize,
     each: usize,
     n: usize,
+    sizes: &mut [u8],
     room: &mut [u8],
     all: &mut [u8],
 ) -> bool
     requires laid { IsLaid order rows.now first others each }
     requires some { 0 < n }
+    requires few { n < 256 }
+    requires sizes { length sizes.old ≡ 1 + others }
     requires room { (n - 1) * length rows.now ≤ length room.old }
     requires multiples { 288 ≤ length all.old }
-    ensures independent { OnTrue result (FirstIndependent order (digits_in order rows.now first each) first others each n) }
-    ensures dependent { OnFalse result (FirstIndependent order (digits_in order rows.now first each) first others each n → ⊥) }
+    requires others { OthersIndependent order (rows_by (digits_in order rows.now first each)) first others each n }
+    ensures independent { OnTrue result (AllIndependent order (rows_by (digits_in order rows.now first each)) first others each n) }
+    ensures found { OnFalse result (IsFound order (rows_by (digits_in order rows.now first each)) first others each n sizes.new) }
+    ensures size { length sizes.new ≡ length sizes.old }
 {
     if first == 0 {
         return true;
     }
     let Some(place) = first_nonzero(read_row(rows, 0)) else {
+        sizes.fill(0);
+        sizes[0] = 1;
         return false;
     };
     if n == 1 {
         return true;
     }
     if n == 2 {
-        return are_left(order, place, rows, first, others, each, all);
+        return walk_pairs(order, place, rows, first, others, each, sizes, all);
     }
     let kept = (first - 1).min(n - 1);
     let width = each.min(n - 1);
@@ -185,10 +224,15 @@ fn walk_first(
     clear_all(
         order, place, rows, first, others, each, kept, width, next, all,
     );
-    walk(order, next, kept, others, width, n - 1, rest, all)
+    if walk(order, next, kept, others, width, n - 1, sizes, rest, all) {
+        return true;
+    }
+    sizes[0] += 1;
+    false
 }
 
-// Whether each choice of at most `n` rows is independent.
+// Whether each choice of at most `n` rows is independent. Else it writes the sizes of the first that
+// is not, by list.
 #[cycle(walking)]
 pub fn walk(
     order: Order,
@@ -197,32 +241,39 @@ pub fn walk(
     others: usize,
     each: usize,
     n: usize,
+    sizes: &mut [u8],
     room: &mut [u8],
     all: &mut [u8],
 ) -> bool
     requires laid { IsLaid order rows.now first others each }
+    requires few { n < 256 }
+    requires sizes { length sizes.old ≡ 1 + others }
     requires room { (n - 1) * length rows.now ≤ length room.old }
     requires multiples { 288 ≤ length all.old }
     ensures independent { OnTrue result (AllIndependent order (rows_by (digits_in order rows.now first each)) first others each n) }
-    ensures dependent { OnFalse result (AllIndependent order (rows_by (digits_in order rows.now first each)) first others each n → ⊥) }
+    ensures found { OnFalse result (IsFound order (rows_by (digits_in order rows.now first each)) first others each n sizes.new) }
+    ensures size { length sizes.new ≡ length sizes.old }
 {
     if n == 0 {
         return true;
     }
-    if !walk_first(order, rows, first, others, each, n, room, all) {
-        return false;
-    }
     if others == 0 {
-        return true;
+        return walk_first(order, rows, first, others, each, n, sizes, room, all);
     }
-    walk(
+    let behind = &rows[32 * first..];
+    if !walk(
         order,
-        &rows[32 * first..],
+        behind,
         each,
         others - 1,
         each,
         n,
+        &mut sizes[1..],
         room,
         all,
-    )
+    ) {
+        sizes[0] = 0;
+        return false;
+    }
+    walk_first(order, rows, first, others, each, n, sizes, room, all)
 }

@@ -1,7 +1,7 @@
 use Rattle.std.proofs.Common.{◌≡◌, ◌-◌, ◌*◌, ap, ◌∙◌, arith}
 use Rattle.mt_strength.proofs.PackedLemmas.{room_fits, laid_packed, all_packed, none_packed}
 use Rattle.mt_strength.proofs.WalkLemmas.{on_true, on_false}
-use Rattle.mt_strength.proofs.searches.is_strong.Goals as goal
+use Rattle.mt_strength.proofs.searches.first_choice.Goals as goal
 
 pub overflow_mul-len : goal.overflow_mul-len
 overflow_mul-len c =
