@@ -14,12 +14,14 @@ use Rattle.mt_system.proofs.ChoiceOrder.{sum-cons, AllAtMost-at}
 use Rattle.mt_strength.specs.Lanes.{HasLanes, IsLanes, lane_of, digit_of}
 use Rattle.mt_strength.specs.Lanes.{row_at}
 use Rattle.mt_strength.specs.Walks.{IsLaid, digits_in}
+use Rattle.mt_strength.specs.FirstChoices.{IsLeastFound, AllChoicesIndependent, IsFirstChoice}
 use Rattle.mt_strength.specs.Searches.{AllIndependent}
 use Rattle.mt_strength.specs.PackedRows.{IsPacked}
 use Rattle.mt_strength.proofs.SumLemmas.{lane_zero}
 use Rattle.mt_strength.proofs.ByteLemmas.{IsLanes-by, digit_at-by, digit_past, digit_of_row}
 use Rattle.mt_strength.proofs.Clearing.{Zip-rows_by, SameDigits, Independent-digits}
-use Rattle.mt_strength.proofs.WalkLemmas.{AllAtMost-min, AllAtMost-weaker}
+use Rattle.mt_strength.proofs.ClearedChoices.{inside, AllAtMost-min}
+use Rattle.mt_strength.proofs.SearchLemmas.{Independent-whole, IsFirstByList-whole, Earlier-by_list}
 
 pub lanes_made : (o : Order) (lanes digits : List ℕ) (k : ℕ) → length lanes ≡ 32 → ((n : ℕ) → n < k → get_or lanes n 0 ≡ lane_of o (get_or digits n 0))
     → ((n : ℕ) → k ≤ n → get_or lanes n 0 ≡ 0) → length digits ≤ k → HasLanes lanes (λ n. lane_of o (get_or digits n 0))
@@ -94,49 +96,20 @@ module _ (a : Matrices) (width each s : ℕ) (rows : List ℕ) (packed : IsPacke
   same_digits (suc i) j l m =
       same_at (suc i) j (each + i * each + j) l m (let h : each + i * each + j ≡ (i + 1) * each + j = omega arith in h ∙ ap (λ n. n * each + j) (let g : i + 1 ≡ suc i = omega arith in g))
 
-  pub Strength-by : (depth k : ℕ) → each ≡ min depth k → 0 < s → AllIndependent a.order (rows_by (digits_in a.order rows each each)) each (s - 1) each k
-      → (c : List ℕ) → IsChoice s depth c → sum c ≤ k → Independent a.order (rows_by (part_rows a width) c)
-  Strength-by depth k is_each some all [] choice size = absurd (let h = choice.coordinates in omega arith)
-  Strength-by depth k is_each some all (d ∷ ds) choice size =
-      let at_most = choice.at_most in
-      let d_depth : d ≤ depth = at_most.0 in
-      let total = sum-cons d ds in
-      let coordinates = choice.coordinates in
-      let rest : AllAtMost each ds = rw is_each (AllAtMost-min depth k ds at_most.1 (omega arith)) in
-      let first : d ≤ each = rw is_each (omega arith) in
-      let c = d ∷ ds in
-      Independent-digits a.order (rows_by (part_rows a width) c) (rows_by (digits_in a.order rows each each) c)
-      (Zip-rows_by SameDigits (part_rows a width) (digits_in a.order rows each each) c (λ i j l. let h = inside first rest coordinates i j l in same_digits i j h.0 h.1))
-      (all d ds (record { of_first = first; coordinates = omega arith; at_most = rest; size = omega arith }))
-    where
-      inside : d ≤ each → AllAtMost each ds → length (d ∷ ds) ≡ s → (i j : ℕ) → j < get_or (d ∷ ds) i 0 → (i < s) × (j < each)
-      inside first rest coordinates zero j l = (some, omega arith)
-      inside first rest coordinates (suc i) j l =
-          elim (cases_lt i (length ds)) [
-            | inl m ↦ (omega arith, let h = AllAtMost-at each ds i rest in omega arith)
-            | inr m ↦ let z = get_or_past ds i 0 m in absurd (omega arith)
-          ]
+  module _ (depth k : ℕ) (is_each : each ≡ min depth k) (c : List ℕ) (choice : IsChoice s depth c) (size : sum c ≤ k) where
+    inside_choice : (i j : ℕ) → j < get_or c i 0 → (i < s) × (j < each)
+    inside_choice = inside s each c choice.coordinates (rw is_each (AllAtMost-min depth k c choice.at_most size))
 
-  pub Strength-from : (depth k : ℕ) → each ≡ min depth k → 0 < s → s ≡ a.coordinates
-      → ((c : List ℕ) → IsChoice a.coordinates depth c → sum c ≤ k → Independent a.order (rows_by (part_rows a width) c))
-      → AllIndependent a.order (rows_by (digits_in a.order rows each each)) each (s - 1) each k
-  Strength-from depth k is_each some is_s strong d ds t =
-      let size = t.size in
-      let of_first = t.of_first in
-      let coordinates = t.coordinates in
-      let c = d ∷ ds in
-      let high : each ≤ depth = rw is_each (omega arith) in
-      Independent-digits a.order (rows_by (digits_in a.order rows each each) c) (rows_by (part_rows a width) c)
-      (Zip-rows_by SameDigits (digits_in a.order rows each each) (part_rows a width) c (λ i j l. let h = inside_of of_first t.at_most coordinates i j l in λ k. sym (same_digits i j h.0 h.1 k)))
-      (strong c (record { coordinates = omega arith; at_most = (omega arith, AllAtMost-weaker each depth ds high t.at_most) }) (omega (arith, sum-cons d ds)))
-    where
-      inside_of : d ≤ each → AllAtMost each ds → length ds ≡ s - 1 → (i j : ℕ) → j < get_or (d ∷ ds) i 0 → (i < s) × (j < each)
-      inside_of first rest long zero j l = (some, omega arith)
-      inside_of first rest long (suc i) j l =
-          elim (cases_lt i (length ds)) [
-            | inl m ↦ (omega arith, let h = AllAtMost-at each ds i rest in omega arith)
-            | inr m ↦ let z = get_or_past ds i 0 m in absurd (omega arith)
-          ]
+    -- a choice of the bytes is a choice of the rows
+    pub independent_rows : Independent a.order (rows_by (digits_in a.order rows each each) c) → Independent a.order (rows_by (part_rows a width) c)
+    independent_rows =
+        Independent-digits a.order (rows_by (part_rows a width) c) (rows_by (digits_in a.order rows each each) c)
+        (Zip-rows_by SameDigits (part_rows a width) (digits_in a.order rows each each) c (λ i j l. let h = inside_choice i j l in same_digits i j h.0 h.1))
+
+    pub independent_bytes : Independent a.order (rows_by (part_rows a width) c) → Independent a.order (rows_by (digits_in a.order rows each each) c)
+    independent_bytes =
+        Independent-digits a.order (rows_by (digits_in a.order rows each each) c) (rows_by (part_rows a width) c)
+        (Zip-rows_by SameDigits (digits_in a.order rows each each) (part_rows a width) c (λ i j l. let h = inside_choice i j l in λ n. sym (same_digits i j h.0 h.1 n)))
 
 AllElements-take : (o : Order) (v : List ℕ) (n : ℕ) → AllElements o v → AllElements o (take n v)
 AllElements-take o v n h k = elim (cases_lt k n) [
@@ -162,21 +135,33 @@ pub laid_packed : (a : Matrices) (o : Order) (width each s : ℕ) (rows items : 
 laid_packed a o width each s rows items is_o is_rows is_s some packed size elements =
     rw (is_o, is_rows, is_s) (IsLaid-packed a width each a.coordinates items (rw is_s at some) packed size (elements_of_rows a width elements))
 
-pub all_packed : (a : Matrices) (o : Order) (width each s depth k : ℕ) (rows items : List ℕ) → o ≡ a.order → rows ≡ items → s ≡ a.coordinates → 0 < s → IsPacked a width each a.coordinates items
-    → AllElements a.order a.digits → width ≤ 32 → each ≡ min depth k → AllIndependent o (rows_by (digits_in o rows each each)) each (s - 1) each k
-    → (c : List ℕ) → IsChoice a.coordinates depth c → sum c ≤ k → Independent a.order (rows_by (part_rows a width) c)
-all_packed a o width each s depth k rows items is_o is_rows is_s some packed elements narrow is_each all =
-    let all' : AllIndependent a.order (rows_by (digits_in a.order items each each)) each (a.coordinates - 1) each k =
-    subst (λ (q : Order). AllIndependent q (rows_by (digits_in q items each each)) each (a.coordinates - 1) each k) is_o
-    (subst (λ (r : List ℕ). AllIndependent o (rows_by (digits_in o r each each)) each (a.coordinates - 1) each k) is_rows
-    (subst (λ n. AllIndependent o (rows_by (digits_in o rows each each)) each (n - 1) each k) is_s all)) in
-    Strength-by a width each a.coordinates items packed narrow (elements_of_rows a width elements) depth k is_each (rw is_s at some) all'
+module _ (a : Matrices) (width each others depth k : ℕ) (items : List ℕ) (is_s : a.coordinates ≡ suc others) (packed : IsPacked a width each a.coordinates items)
+    (elements : AllElements a.order a.digits) (narrow : width ≤ 32) (is_each : each ≡ min depth k) where
+  as_choice : (c : List ℕ) → IsChoice a.coordinates depth c → IsChoice (suc others) depth c
+  as_choice c = subst (λ n. IsChoice n depth c) is_s
 
-pub none_packed : (a : Matrices) (o : Order) (width each s depth k : ℕ) (rows items : List ℕ) → o ≡ a.order → rows ≡ items → s ≡ a.coordinates → 0 < s → IsPacked a width each a.coordinates items
-    → AllElements a.order a.digits → width ≤ 32 → each ≡ min depth k → (AllIndependent o (rows_by (digits_in o rows each each)) each (s - 1) each k → ⊥)
-    → ((c : List ℕ) → IsChoice a.coordinates depth c → sum c ≤ k → Independent a.order (rows_by (part_rows a width) c)) → ⊥
-none_packed a o width each s depth k rows items is_o is_rows is_s some packed elements narrow is_each none strong =
-    let all = Strength-from a width each a.coordinates items packed narrow (elements_of_rows a width elements) depth k is_each (rw is_s at some) refl strong in
-    none (subst (λ (q : Order). AllIndependent q (rows_by (digits_in q rows each each)) each (s - 1) each k) (sym is_o)
-    (subst (λ (r : List ℕ). AllIndependent a.order (rows_by (digits_in a.order r each each)) each (s - 1) each k) (sym is_rows)
-    (subst (λ n. AllIndependent a.order (rows_by (digits_in a.order items each each)) each (n - 1) each k) (sym is_s) all)))
+  pub all_packed : AllIndependent a.order (rows_by (digits_in a.order items each each)) each others each k → AllChoicesIndependent a width depth k
+  all_packed all c choice size =
+      independent_rows a width each a.coordinates items packed narrow (elements_of_rows a width elements) depth k is_each c choice size
+      (Independent-whole a.order (rows_by (digits_in a.order items each each)) others depth each k (rw is_each (omega arith)) all c (as_choice c choice) size)
+
+  pub first_packed : (c : List ℕ) → IsLeastFound a.order (rows_by (digits_in a.order items each each)) others each k c → IsFirstChoice a width depth k c
+  first_packed c least =
+      let o = a.order in
+      let R = rows_by (digits_in o items each each) in
+      let size = least.size in
+      let high : each ≤ depth = rw is_each (omega arith) in
+      let enough : (n : ℕ) → n ≤ k → min depth n ≤ each = λ n l. rw is_each (omega arith) in
+      let by_list = IsFirstByList-whole o R others depth each (sum c) c high (enough (sum c) size) least.found in
+      let choice : IsChoice a.coordinates depth c = subst (λ n. IsChoice n depth c) (sym is_s) by_list.choice in
+      let earlier = Earlier-by_list o (suc others) depth (sum c) k R c by_list
+      (λ d is l. Independent-whole o R others depth each (sum c - 1) (enough (sum c - 1) (omega arith)) least.lesser d is (omega arith)) in
+      record {
+        choice = choice;
+        size = size;
+        dependent = λ independent. by_list.dependent
+            (independent_bytes a width each a.coordinates items packed narrow (elements_of_rows a width elements) depth k is_each c choice size independent);
+        earlier = λ d is small before.
+            independent_rows a width each a.coordinates items packed narrow (elements_of_rows a width elements) depth k is_each d is small
+            (earlier d (as_choice d is) small before);
+      }

@@ -47,10 +47,10 @@ fn search(
     if walk(order, rows, each, others, each, k, sizes, room, all) {
         return true;
     }
-    loop {
+    'fewer: loop {
         found.copy_from_slice(sizes);
-        let fewer = total(found) as usize - 1;
-        if walk(order, rows, each, others, each, fewer, sizes, room, all) {
+        let n = total(found) as usize - 1;
+        if walk(order, rows, each, others, each, n, sizes, room, all) {
             return false;
         }
     }

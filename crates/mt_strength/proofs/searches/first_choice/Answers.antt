@@ -1,46 +1,45 @@
-use Rattle.std.proofs.Common.{◌≡◌, ◌-◌, ◌*◌, ap, ◌∙◌, arith}
-use Rattle.mt_strength.proofs.PackedLemmas.{room_fits, laid_packed, all_packed, none_packed}
-use Rattle.mt_strength.proofs.WalkLemmas.{on_true, on_false}
+use Rattle.std.proofs.Common.{◌≡◌, ◌+◌, ◌-◌, ◌<◌, ◌*◌, ℕ, suc, List, length, drop, sym, ap, ◌∙◌, subst, arith}
+use Rattle.std.proofs.lemmas.List.{take_at}
+use Rattle.mt_linear.specs.declared.order.Order.{Order}
+use Rattle.mt_system.specs.Rows.{rows_by}
+use Rattle.mt_strength.specs.FirstChoices.{IsLeastFound, IsFirstChoice}
+use Rattle.mt_strength.specs.Searches.{AllIndependent}
+use Rattle.mt_strength.specs.Walks.{digits_in}
+use Rattle.mt_strength.proofs.PackedLemmas.{laid_packed, all_packed, first_packed}
 use Rattle.mt_strength.proofs.searches.first_choice.Goals as goal
 
-pub overflow_mul-len : goal.overflow_mul-len
-overflow_mul-len c =
-    let coordinates = c.order-order.ensures.system.coordinates_to in
-    let is_each = c.min-each.ensures in
-    let k = c.if-k-gt32.false in
-    let ok = c.in_ok-rows.rows.ok in
-    let is_len = c.len.ensures in
-    let size = c.in_ok-rows.ensures.size in
-    let long : c.len.result ≡ 32 * (c.args.system.now.coordinates * c.min-each.result) = is_len ∙ ok.0 ∙ size in
-    let h = room_fits c.len.result c.args.system.now.coordinates c.min-each.result c.args.k long coordinates (omega arith) (omega arith) in
-    let same : c.len.result * c.saturating_sub.result ≡ c.len.result * (c.args.k - 1) = ap (λ n. c.len.result * n) c.saturating_sub.ensures in
-    record { fits = omega arith }
+pub search-holds-requires-clause-laid : goal.search-holds-requires-clause-laid
+search-holds-requires-clause-laid c =
+    let from = c.order.ensures.system.coordinates_from in
+    let e = c.s-s.ensures in
+    laid_packed c.args.system.now c.order.result c.args.width c.min-each.result c.s-s.result c.deref.result.now c.in_ok-rows.rows.items c.order.ensures.value c.deref.ensures.value e (omega arith)
+    c.in_ok-rows.ensures.packed c.in_ok-rows.ensures.size c.order.ensures.system.elements
 
-pub overflow_sub-others : goal.overflow_sub-others
-overflow_sub-others c = let h = c.order-order.ensures.system.coordinates_from in let e = c.s.ensures in omega arith
+pub returns-then-holds : goal.returns-then-holds
+returns-then-holds c =
+    let from = c.order.ensures.system.coordinates_from in
+    let e = c.s-s.ensures in
+    let each = c.min-each.result in
+    let others = c.s-s.result - 1 in
+    all_packed c.args.system.now c.args.width each others c.args.depth c.args.k c.in_ok-rows.rows.items (omega arith) c.in_ok-rows.ensures.packed
+    c.order.ensures.system.elements c.requires.lanes c.min-each.ensures
+    (subst (λ (o : Order). AllIndependent o (rows_by (digits_in o c.in_ok-rows.rows.items each each)) each others each c.args.k) c.order.ensures.value
+    (subst (λ (rows : List ℕ). AllIndependent c.order.result (rows_by (digits_in c.order.result rows each each)) each others each c.args.k) c.deref.ensures.value c.if-holds.ensures.independent))
 
-pub walk-requires-clause-laid : goal.walk-requires-clause-laid
-walk-requires-clause-laid c =
-    let from = c.order-order.ensures.system.coordinates_from in
-    let e = c.s.ensures in
-    laid_packed c.args.system.now c.order-order.result c.args.width c.min-each.result c.s.result c.deref.result.now c.in_ok-rows.rows.items c.order-order.ensures.value c.deref.ensures.value e (omega arith)
-    c.in_ok-rows.ensures.packed c.in_ok-rows.ensures.size c.order-order.ensures.system.elements
-
-pub returns-clause-independent : goal.returns-clause-independent
-returns-clause-independent c =
-    let from = c.order-order.ensures.system.coordinates_from in
-    let e = c.s.ensures in
-    let w = c.if-width-gt32.false in
-    on_true c.walk.result _ _
-    (all_packed c.args.system.now c.order-order.result c.args.width c.min-each.result c.s.result c.args.depth c.args.k c.deref.result.now c.in_ok-rows.rows.items c.order-order.ensures.value c.deref.ensures.value e (omega arith)
-    c.in_ok-rows.ensures.packed c.order-order.ensures.system.elements (omega arith) c.min-each.ensures)
-    c.walk.ensures.independent
-
-pub returns-clause-dependent : goal.returns-clause-dependent
-returns-clause-dependent c = λ narrow few.
-    let from = c.order-order.ensures.system.coordinates_from in
-    let e = c.s.ensures in
-    on_false c.walk.result _ _
-    (none_packed c.args.system.now c.order-order.result c.args.width c.min-each.result c.s.result c.args.depth c.args.k c.deref.result.now c.in_ok-rows.rows.items c.order-order.ensures.value c.deref.ensures.value e (omega arith)
-    c.in_ok-rows.ensures.packed c.order-order.ensures.system.elements narrow c.min-each.ensures)
-    c.walk.ensures.dependent
+pub returns : goal.returns
+returns c =
+    let from = c.order.ensures.system.coordinates_from in
+    let e = c.s-s.ensures in
+    let each = c.min-each.result in
+    let others = c.s-s.result - 1 in
+    let kept = c.search-holds.auto.found in
+    let value = c.deref_mut-2.ensures.value in
+    let ok = c.in_ok-found.found.ok in
+    let long : length c.search-holds.new.found ≡ c.in_ok-found.found.len = kept ∙ ap length value ∙ sym ok.0 in
+    let items : c.of.result ≡ c.search-holds.new.found =
+    c.of.ensures ∙ take_at c.search-holds.new.found (drop (length c.search-holds.new.found) c.in_ok-found.found.items) c.in_ok-found.found.len long in
+    rw items
+    (first_packed c.args.system.now c.args.width each others c.args.depth c.args.k c.in_ok-rows.rows.items (omega arith) c.in_ok-rows.ensures.packed
+    c.order.ensures.system.elements c.requires.lanes c.min-each.ensures c.search-holds.new.found
+    (subst (λ (o : Order). IsLeastFound o (rows_by (digits_in o c.in_ok-rows.rows.items each each)) others each c.args.k c.search-holds.new.found) c.order.ensures.value
+    (subst (λ (rows : List ℕ). IsLeastFound c.order.result (rows_by (digits_in c.order.result rows each each)) others each c.args.k c.search-holds.new.found) c.deref.ensures.value c.if-holds.ensures.first)))

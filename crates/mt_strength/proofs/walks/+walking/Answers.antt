@@ -70,7 +70,7 @@ walk-walk_first-requires-2 t c =
                 (
                   let m = c.requires.multiples in omega arith,
                   others_behind c.args.order c.args.rows.now c.args.first c.args.others c.args.each c.args.n some
-                  (subst (λ (rows : List ℕ). AllIndependent c.args.order (rows_by (digits_in c.args.order rows c.args.each c.args.each)) c.args.each (c.args.others - 1) c.args.each c.args.n) e c.if-not-walk.ensures.independent),
+                      (subst (λ (rows : List ℕ). AllIndependent c.args.order (rows_by (digits_in c.args.order rows c.args.each c.args.each)) c.args.each (c.args.others - 1) c.args.each c.args.n) e c.if-not-walk.ensures.independent),
                 ),
               ),
             ),
