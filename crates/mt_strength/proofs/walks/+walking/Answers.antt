@@ -1,0 +1,165 @@
+use Rattle.std.proofs.Common.{◌≡◌, ℕ, suc, ◌+◌, ◌-◌, ◌*◌, ◌<◌, ◌≤◌, List, length, get_or, drop, replicate, refl, sym, ap, ◌∙◌, arith, subst, length-drop}
+use Rattle.std.specs.Bool.{OnTrue, OnFalse}
+use Rattle.std.proofs.Math.ListN.{set}
+use Rattle.std.proofs.Math.Nat.{mul-le-mul_left}
+use Rattle.mt_system.specs.Rows.{rows_by}
+use Rattle.mt_strength.specs.Searches.{AllIndependent, IsFound}
+use Rattle.mt_strength.specs.Walks.{OthersIndependent, digits_in}
+use Rattle.mt_strength.proofs.ClearedChoices.{all_one, all_left, found_left, zero_row}
+use Rattle.mt_strength.proofs.SearchLemmas.{raised, IsFound-one}
+use Rattle.mt_strength.proofs.WalkLemmas.{all_empty, all_others, all_raised, found_raised, others_behind, found_behind, IsLaid-left, IsLaid-behind, room_behind, room_left, slice_behind, on_true, on_false, digit_some, behind_written, length-behind}
+use Rattle.mt_strength.proofs.walks.+walking.Goals as goal
+
+pub walk-returns-then-n-eq0-clause-independent : goal.walk-returns-then-n-eq0-clause-independent
+walk-returns-then-n-eq0-clause-independent t c = all_empty c.args.order (digits_in c.args.order c.args.rows.now c.args.first c.args.each) c.args.first c.args.others c.args.each c.args.n c.if-n-eq0.true
+
+pub walk-walk-requires : goal.walk-walk-requires
+walk-walk-requires t c =
+    let ne = c.if-others-eq0.false in
+    let some : 0 < c.args.others = omega arith in
+    let e = slice_behind c.args.rows.now (32 * c.args.first) in
+    let sizes = c.requires.sizes in
+    let tail = slice_behind c.args.sizes.now 1 in (
+      let d = c.decreases in omega arith,
+      (
+        rw e (IsLaid-behind c.args.order c.args.rows.now c.args.first c.args.others c.args.each some c.requires.laid),
+        (
+          c.requires.few,
+          (
+            rw tail (omega (arith, length-drop 1 c.args.sizes.now)),
+            (
+              rw e (room_behind c.args.rows.now c.args.first c.args.n (length c.args.room.now) c.requires.room),
+              c.requires.multiples,
+            ),
+          ),
+        ),
+      ),
+    )
+
+pub walk-returns-then-not-walk-clause-found : goal.walk-returns-then-not-walk-clause-found
+walk-returns-then-not-walk-clause-found t c =
+    let ne = c.if-others-eq0.false in
+    let some : 0 < c.args.others = omega arith in
+    let sizes = c.requires.sizes in
+    let e = slice_behind c.args.rows.now (32 * c.args.first) in
+    rw (behind_written c.args.sizes.now c.walk.new.sizes (omega arith))
+    (found_behind c.args.order c.args.rows.now c.args.first c.args.others c.args.each c.args.n c.walk.new.sizes some
+    (subst (λ (rows : List ℕ). IsFound c.args.order (rows_by (digits_in c.args.order rows c.args.each c.args.each)) c.args.each (c.args.others - 1) c.args.each c.args.n c.walk.new.sizes) e c.if-not-walk.ensures.found))
+
+pub walk-walk_first-requires-2 : goal.walk-walk_first-requires-2
+walk-walk_first-requires-2 t c =
+    let none = c.if-n-eq0.false in
+    let ne = c.if-others-eq0.false in
+    let some : 0 < c.args.others = omega arith in
+    let sizes = c.requires.sizes in
+    let e = slice_behind c.args.rows.now (32 * c.args.first) in
+    let tail : length c.walk.new.sizes ≡ length c.args.sizes.now - 1 = c.if-not-walk.ensures.size ∙ ap length (slice_behind c.args.sizes.now 1) ∙ omega (arith, length-drop 1 c.args.sizes.now) in
+    let room = c.walk.auto.room in
+    let all = c.walk.auto.all in (
+      let d = c.decreases in omega arith,
+      (
+        c.requires.laid,
+        (
+          omega arith,
+          (
+            c.requires.few,
+            (
+              length-behind c.args.sizes.now c.walk.new.sizes (omega arith) tail ∙ sizes,
+              (
+                let h = c.requires.room in omega arith,
+                (
+                  let m = c.requires.multiples in omega arith,
+                  others_behind c.args.order c.args.rows.now c.args.first c.args.others c.args.each c.args.n some
+                      (subst (λ (rows : List ℕ). AllIndependent c.args.order (rows_by (digits_in c.args.order rows c.args.each c.args.each)) c.args.each (c.args.others - 1) c.args.each c.args.n) e c.if-not-walk.ensures.independent),
+                ),
+              ),
+            ),
+          ),
+        ),
+      ),
+    )
+
+pub walk_first-returns-then-first-eq0-clause-independent : goal.walk_first-returns-then-first-eq0-clause-independent
+walk_first-returns-then-first-eq0-clause-independent t c =
+    all_others c.args.order c.args.rows.now c.args.first c.args.others c.args.each c.args.n c.if-first-eq0.true c.requires.others
+
+pub walk_first-returns-in_default-clause-found : goal.walk_first-returns-in_default-clause-found
+walk_first-returns-in_default-clause-found t c =
+    let ne = c.if-first-eq0.false in
+    let R = rows_by (digits_in c.args.order c.args.rows.now c.args.first c.args.each) in
+    let e : length c.args.sizes.now ≡ suc c.args.others = let h = c.requires.sizes in omega arith in
+    let zeros : c.fill.new.self ≡ replicate (suc c.args.others) 0 = c.fill.ensures.after (λ y h. h) ∙ ap (λ n. replicate n 0) e in
+    rw (ap (λ (s : List ℕ). set s 0 1) zeros)
+    (IsFound-one c.args.order R c.args.first c.args.others c.args.each c.args.n (omega arith) c.requires.some c.requires.others
+    (zero_row c.args.order c.args.rows.now c.args.first c.args.others c.args.each (λ k. sym (ap (λ (r : List ℕ). get_or r k 0) c.read_row.ensures) ∙ c.in_default.ensures k)))
+
+pub walk_first-returns-then-n-eq1-clause-independent : goal.walk_first-returns-then-n-eq1-clause-independent
+walk_first-returns-then-n-eq1-clause-independent t c =
+    let ne = c.if-first-eq0.false in
+    let some : 0 < c.args.first = omega arith in
+    let R = rows_by (digits_in c.args.order c.args.rows.now c.args.first c.args.each) in
+    let one : 0 ≡ c.args.n - 1 = let e = c.if-n-eq1.true in omega arith in
+    all_raised c.args.order R c.args.first c.args.others c.args.each c.args.n some c.requires.some c.requires.others
+    (subst (λ m. AllIndependent c.args.order (λ d. R (raised d)) (c.args.first - 1) c.args.others c.args.each m) one
+    (all_one c.args.order c.args.rows.now c.args.first c.args.others c.args.each c.in-Some.place c.requires.laid some
+    (digit_some c.args.order c.args.rows.now c.read_row.result c.in-Some.place c.read_row.ensures (c.requires.laid.of_first 0 some) c.in-Some.ensures.1)))
+
+pub walk_first-walk_pairs-requires-clause-others : goal.walk_first-walk_pairs-requires-clause-others
+walk_first-walk_pairs-requires-clause-others t c =
+    subst (OthersIndependent c.args.order (rows_by (digits_in c.args.order c.args.rows.now c.args.first c.args.each)) c.args.first c.args.others c.args.each) c.if-n-eq2.true c.requires.others
+
+pub walk_first-returns-then-n-eq2-clause-independent : goal.walk_first-returns-then-n-eq2-clause-independent
+walk_first-returns-then-n-eq2-clause-independent t c =
+    subst (λ n. OnTrue c.walk_pairs.result (AllIndependent c.args.order (rows_by (digits_in c.args.order c.args.rows.now c.args.first c.args.each)) c.args.first c.args.others c.args.each n)) (sym c.if-n-eq2.true) c.walk_pairs.ensures.independent
+
+pub walk_first-walk-requires : goal.walk_first-walk-requires
+walk_first-walk-requires t c =
+    let kept = c.min-kept.result in
+    let width = c.min-width.result in
+    let is_kept = c.min-kept.ensures in
+    let is_width = c.min-width.ensures in
+    let one = c.if-n-eq1.false in
+    let some = c.requires.some in
+    let few = c.requires.few in
+    let size = c.clear_all.ensures.size in
+    let front = c.split_at_mut-next.ensures.front_len in
+    let back = c.split_at_mut-next.ensures.back_len in
+    let whole = c.requires.laid.size in
+    let long : length c.clear_all.new.next ≡ 32 * (kept + c.args.others * width) = size ∙ front in
+    let m : c.args.others * width ≤ c.args.others * c.args.each = mul-le-mul_left c.args.others (let h : width ≤ c.args.each = omega arith in h) in (
+      let d = c.decreases in omega arith,
+      (
+        IsLaid-left c.args.order c.args.rows.now c.args.first c.args.others c.args.each c.in-Some.place c.clear_all.new.next kept width long c.clear_all.ensures.left,
+        (
+          omega arith,
+          (
+            c.requires.sizes,
+            (
+              room_left (length c.args.rows.now) (length c.clear_all.new.next) c.args.n (length c.args.room.now) (length c.split_at_mut-next.result.1.now) (omega arith) c.requires.room (omega arith) (omega arith),
+              let m = c.requires.multiples in let same = c.clear_all.ensures.multiples in omega arith,
+            ),
+          ),
+        ),
+      ),
+    )
+
+pub walk_first-returns-then-walk-clause-independent : goal.walk_first-returns-then-walk-clause-independent
+walk_first-returns-then-walk-clause-independent t c =
+    let ne = c.if-first-eq0.false in
+    let some : 0 < c.args.first = omega arith in
+    let R = rows_by (digits_in c.args.order c.args.rows.now c.args.first c.args.each) in
+    all_raised c.args.order R c.args.first c.args.others c.args.each c.args.n some c.requires.some c.requires.others
+    (all_left c.args.order c.args.rows.now c.args.first c.args.others c.args.each c.in-Some.place c.requires.laid some
+    (digit_some c.args.order c.args.rows.now c.read_row.result c.in-Some.place c.read_row.ensures (c.requires.laid.of_first 0 some) c.in-Some.ensures.1)
+    c.args.n c.clear_all.new.next c.min-kept.result c.min-width.result c.min-kept.ensures c.min-width.ensures c.clear_all.ensures.left c.if-walk.ensures.independent)
+
+pub walk_first-returns-clause-found : goal.walk_first-returns-clause-found
+walk_first-returns-clause-found t c =
+    let ne = c.if-first-eq0.false in
+    let some : 0 < c.args.first = omega arith in
+    let R = rows_by (digits_in c.args.order c.args.rows.now c.args.first c.args.each) in
+    found_raised c.args.order R c.args.first c.args.others c.args.each c.args.n c.walk.new.sizes _ some c.requires.some c.requires.others
+    (found_left c.args.order c.args.rows.now c.args.first c.args.others c.args.each c.in-Some.place c.requires.laid some
+    (digit_some c.args.order c.args.rows.now c.read_row.result c.in-Some.place c.read_row.ensures (c.requires.laid.of_first 0 some) c.in-Some.ensures.1)
+    c.args.n c.clear_all.new.next c.min-kept.result c.min-width.result c.min-kept.ensures c.min-width.ensures c.clear_all.ensures.left c.walk.new.sizes c.if-walk.ensures.found)
+    refl
