@@ -1,7 +1,7 @@
 //! The strength of a system of rows.
 #![tactic(auto)]
 
-ghost use Rattle.std.specs.Prelude.{◌≡◌, ◌++◌, ◌-◌, ◌<◌, ◌≤◌, length, sum, map, take, IfOk, OnOk, MatchOption, IfSome};
+ghost use Rattle.std.specs.Prelude.{◌≡◌, ◌++◌, ◌+◌, ◌-◌, ◌<◌, ◌≤◌, length, sum, map, take, IfOk, OnOk, MatchOption, IfSome};
 ghost use Rattle.mt_linear.specs.Linear.{Independent};
 ghost use Rattle.mt_system.specs.Choices.{AllAtMost, IsChoice};
 ghost use Rattle.mt_system.specs.Rows.{Strength, rows_by, part_rows, first_rows};
@@ -14,10 +14,12 @@ mod sequences;
 mod tests;
 
 pub use checks::{Checked, Tested, choices_of};
-use mt_linear::{Basis, Inserted, Order, Vector, negated};
+use mt_linear::{Basis, Inserted, Order, Steps, Vector, negated};
 use mt_system::{Choice, System, next_choice};
 pub use sequences::{SeqVerdict, check_sequence};
 use std::alloc::{AllocError, Global};
+use std::marker::Brand;
+use std::sync::ledger::{Blank, Ledger};
 
 /// What `check` found.
 #[derive(Drop)]
@@ -82,21 +84,23 @@ fn choice_rows(
 }
 
 // The coefficients of the one combination to zero, where the last row depends on the others.
-fn dependence(
+fn dependence<L: Ledger>(
     alloc: Global,
     order: Order,
     m: u8,
     rows: &[Vector],
+    steps: &mut Steps<L>,
 ) -> Result<Option<Vector>, AllocError>
     requires all { AllOf order m rows.now }
     requires front { Independent order (take (length rows.now - 1) (lists_of rows.now)) }
     ensures independent { IfOk result (λ r. MatchOption r
         (Independent order (lists_of rows.now))
         (λ c. (c.order ≡ order) × IsRelation order (lists_of rows.now) c.digits)) }
+    ensures steps { OnOk result (steps.new ≤ steps.old + length rows.now) }
 {
     let mut basis = Basis::new(alloc, order, m)?;
     for row in rows {
-        match basis.insert(alloc, row)? {
+        match basis.insert(alloc, row, steps)? {
             Inserted::Fresh => {}
             Inserted::Depends(coefficients) => {
                 let digits = Vec::from_slice(alloc, coefficients.digits())?;
@@ -107,6 +111,27 @@ fn dependence(
         }
     }
     Ok(None)
+}
+
+// As `dependence`, with a count of its own.
+fn uncounted_dependence<L: Ledger>(
+    blank: Blank,
+    alloc: Global,
+    order: Order,
+    m: u8,
+    rows: &[Vector],
+) -> Result<Option<Vector>, AllocError>
+    requires name { blank.name ≡ L.name }
+    requires parts { blank.parts ≡ L.parts }
+    requires some { 0 < L.parts }
+    requires all { AllOf order m rows.now }
+    requires front { Independent order (take (length rows.now - 1) (lists_of rows.now)) }
+    ensures { IfOk result (λ r. MatchOption r
+        (Independent order (lists_of rows.now))
+        (λ c. (c.order ≡ order) × IsRelation order (lists_of rows.now) c.digits)) }
+{
+    let mut steps = Steps::<L>::of(blank);
+    dependence(alloc, order, m, rows, &mut steps)
 }
 
 // The first dependent choice of at most `k` rows, where each coordinate has only its first `depth`
@@ -126,7 +151,13 @@ fn first_dependent(
     let mut choice = Choice::empty(alloc, system.s())?;
     loop {
         let rows = choice_rows(alloc, system, width, depth, &choice)?;
-        if let Some(coefficients) = dependence(alloc, system.order(), width, &rows)? {
+        if let Some(coefficients) = uncounted_dependence::<Brand>(
+            Blank::new(1),
+            alloc,
+            system.order(),
+            width,
+            &rows,
+        )? {
             return Ok(Verdict::Dependent {
                 choice,
                 coefficients,
