@@ -9,11 +9,13 @@ ghost use Rattle.mt_strength.specs.Dependence.{lists_of, AllOf, IsRelation};
 ghost use Rattle.mt_strength.specs.Verdicts.{IsVerdict, IsVerdictAmong, IsGreatestStrength};
 
 mod checks;
+mod counted_search;
 mod sequences;
 #[cfg(test)]
 mod tests;
 
 pub use checks::{Checked, Tested, choices_of};
+pub use counted_search::check_with;
 use mt_linear::{Basis, Inserted, Order, Steps, Vector, negated};
 use mt_system::{Choice, System, next_choice};
 pub use sequences::{SeqVerdict, check_sequence};
