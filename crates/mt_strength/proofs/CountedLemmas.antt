@@ -1,24 +1,20 @@
 -- A search that decides each choice by one insertion more: the rows, the steps, and the least choice.
-use Rattle.std.proofs.Common.{◌≡◌, inl, inr, ◌⊎◌, Bool, true, false, ℕ, zero, suc, ◌+◌, ◌-◌, ◌*◌, ◌<◌, ◌≤◌, List, [], ◌∷◌, ◌++◌, length, get_or, map, sum, min, Result, Ok, Err, set, replicate, refl, sym, ap, ap₂, ◌∙◌, subst, arith, append_assoc, append-nil, length-append, add-one}
+use Rattle.std.proofs.Common.{◌≡◌, inl, inr, ◌⊎◌, Bool, true, false, ℕ, zero, suc, ◌+◌, ◌-◌, ◌<◌, ◌≤◌, List, [], ◌∷◌, ◌++◌, length, get_or, map, min, Result, Ok, Err, set, replicate, refl, sym, ap, ap₂, ◌∙◌, subst, arith, append_assoc, append-nil, add-one}
 use Rattle.std.specs.Result.{OnOk}
 use Rattle.std.proofs.lemmas.Bool.{cases_lt}
 use Rattle.std.proofs.Math.ListN.{drop_of_length-le}
 use borrow.Rule.Slice.PartMut.{put_mid}
 use Rattle.std.proofs.lemmas.List.{length-map, get_or-map, get_or_past}
-use Rattle.std.proofs.Math.Nat.{mul-le-mul_left}
 use Rattle.mt_linear.specs.declared.order.Order.{Order}
-use Rattle.mt_linear.specs.Field.{number_of, neg_of}
+use Rattle.mt_linear.specs.Field.{neg_of}
 use Rattle.mt_linear.specs.Linear.{AllElements, Gives, Independent}
 use Rattle.mt_linear.proofs.FieldLaws.{number_pos, neg_lt}
-use Rattle.mt_linear.proofs.Reduction.{Independent-nil}
-use Rattle.mt_system.specs.Choices.{IsChoice}
 use Rattle.mt_system.specs.Counts.{sum_below, number_of_choices}
-use Rattle.mt_system.specs.Rows.{rows_by, first_rows}
-use Rattle.mt_system.proofs.ChoiceOrder.{sum-cons}
-use Rattle.mt_strength.specs.Searches.{AllIndependent, IsFound, IsFirstByList}
-use Rattle.mt_strength.specs.CountedSearch.{rows_from, rows_after, number_taken, IsSearched, IsSearchedBehind, IsSearchedWhole, IsLeast, IsLeastOf}
+use Rattle.mt_system.specs.Rows.{rows_by}
+use Rattle.mt_strength.specs.Searches.{AllIndependent, IsFound}
+use Rattle.mt_strength.specs.CountedSearch.{rows_from, rows_after, number_taken, IsSearched, IsSearchedBehind}
 use Rattle.mt_strength.proofs.RowLemmas.{rows_by-same, no_rows, sum_zeros, IsRelation-by, relation_dependent}
-use Rattle.mt_strength.proofs.SearchLemmas.{others_of, rows_first, raised, WithoutFirst, WithoutFirst-single, WithoutFirst-behind, AllIndependent-none, AllIndependent-both, IsFound-behind, IsFound-raised, IsFound-one, Independent-whole, IsFirstByList-whole, Earlier-by_list}
+use Rattle.mt_strength.proofs.SearchLemmas.{others_of, rows_first, raised, WithoutFirst, WithoutFirst-single, WithoutFirst-behind, AllIndependent-none, AllIndependent-both, IsFound-behind, IsFound-raised, IsFound-one}
 
 -- a vector that is a combination makes the list dependent
 pub given_dependent : (o : Order) (vs : List (List ℕ)) (v c : List ℕ) → AllElements o v → AllElements o c → length c ≡ length vs → Gives o (λ k. get_or c k 0) vs v

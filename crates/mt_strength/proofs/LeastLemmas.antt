@@ -1,11 +1,11 @@
 -- Searches of fewer and fewer rows, to the least dependent choice.
-use Rattle.std.proofs.Common.{◌≡◌, inl, inr, ℕ, zero, suc, ◌+◌, ◌-◌, ◌*◌, ◌<◌, ◌≤◌, List, [], ◌∷◌, ◌++◌, length, map, sum, true, false, Some, None, refl, sym, ap, ap₂, ◌∙◌, subst, arith, length-append}
+use Rattle.std.proofs.Common.{◌≡◌, inl, inr, ℕ, zero, suc, ◌+◌, ◌-◌, ◌*◌, ◌<◌, ◌≤◌, List, [], ◌∷◌, ◌++◌, length, sum, true, false, None, refl, sym, ap, ap₂, ◌∙◌, subst, arith, length-append}
 use Rattle.std.proofs.lemmas.Bool.{cases_eq}
-use Rattle.std.proofs.lemmas.List.{length-map, length_push}
+use Rattle.std.proofs.lemmas.List.{length_push}
 use Rattle.std.proofs.Math.Nat.{mul-le-mul_left, mul-le-mul_right}
 use Rattle.mt_linear.specs.declared.order.Order.{Order}
 use Rattle.mt_linear.specs.Linear.{Independent}
-use Rattle.mt_system.specs.Choices.{IsChoice, Before}
+use Rattle.mt_system.specs.Choices.{IsChoice}
 use Rattle.mt_system.specs.Counts.{number_of_choices}
 use Rattle.mt_system.specs.Rows.{rows_by, first_rows}
 use Rattle.mt_system.proofs.ChoiceOrder.{sum-cons}

@@ -1,5 +1,5 @@
 -- What a search for a dependent choice says, which decides each choice by one insertion more.
-use Rattle.std.specs.Prelude.{◌≡◌, ℕ, zero, suc, ◌+◌, ◌-◌, ◌*◌, ◌≤◌, Bool, true, false, Option, Some, None, min, List, ◌∷◌, ◌++◌, sum}
+use Rattle.std.specs.Prelude.{ℕ, zero, suc, ◌+◌, ◌-◌, ◌*◌, ◌≤◌, Bool, true, false, Option, Some, None, min, List, ◌∷◌, ◌++◌, sum}
 use Rattle.mt_linear.specs.declared.order.Order.{Order}
 use Rattle.mt_linear.specs.Linear.{Independent}
 use Rattle.mt_system.specs.Choices.{IsChoice}

@@ -1,4 +1,4 @@
-use Rattle.std.proofs.Common.{◌≡◌, ◌<◌, ◌≤◌, ◌-◌, List, ℕ, sum, ap, ◌∙◌, arith}
+use Rattle.std.proofs.Common.{◌<◌, ◌≤◌, ◌-◌, sum, ap, ◌∙◌, arith}
 use Rattle.mt_linear.specs.Vectors.{Inserts}
 use Rattle.mt_system.specs.Rows.{rows_by, part_rows}
 use Rattle.mt_strength.specs.Searches.{IsFirstByList}

@@ -1,11 +1,11 @@
-use Rattle.std.proofs.Common.{◌≡◌, true, false, Bool, ℕ, ◌+◌, ◌-◌, ◌<◌, ◌≤◌, List, [], ◌∷◌, ◌++◌, length, get_or, replicate, refl, sym, ap, ◌∙◌, inl, inr, arith, subst}
+use Rattle.std.proofs.Common.{◌≡◌, true, ℕ, ◌+◌, ◌-◌, ◌<◌, List, [], ◌∷◌, ◌++◌, length, get_or, replicate, refl, sym, ap, ◌∙◌, inl, inr, arith, subst}
 use Rattle.mt_linear.specs.declared.order.Order.{Order}
 use Rattle.mt_linear.specs.Linear.{AllElements, Independent, Gives}
-use Rattle.mt_linear.specs.Vectors.{Digits, Inserts}
+use Rattle.mt_linear.specs.Vectors.{Inserts}
 use Rattle.mt_linear.specs.Insertion.{Appends, Shows}
 use Rattle.mt_system.specs.Rows.{part_rows}
 use Rattle.mt_strength.specs.CountedSearch.{rows_after, number_taken, IsSearched, IsSearchedBehind}
-use Rattle.mt_strength.proofs.CountedLemmas.{searched_last, searched_behind, searched_none, searched_one, searched_with_true, searched_with_false, found_below, number_taken-least, number_taken-with, number_taken-whole, number_positive, number_taken-positive, on_ok, front_zero}
+use Rattle.mt_strength.proofs.CountedLemmas.{searched_last, searched_behind, searched_none, searched_one, searched_with_true, searched_with_false, number_taken-least, number_taken-with, number_taken-whole, number_taken-positive, on_ok, front_zero}
 use Rattle.mt_strength.proofs.counted_search.+searching.Goals.{search-then-j-depth-via-then-j-depth, search-then-j-depth-via-else-j-depth+then-n-eq0}
 use Rattle.mt_strength.proofs.counted_search.+searching.Goals as goal
 
