@@ -3,6 +3,7 @@ use Rattle.std.specs.Prelude.{◌≡◌, ℕ, ◌+◌, ◌≤◌, List, [], ◌�
 use Rattle.mt_linear.specs.declared.order.Order.{Order}
 use Rattle.mt_linear.specs.Linear.{Independent}
 use Rattle.mt_system.specs.Choices.{AllAtMost, IsChoice, LexBefore}
+use Rattle.mt_strength.specs.Verdicts.{EarlierIndependent}
 
 -- c rows of the first coordinate, which has `first`, and cs of each of the others, which have `each`: at most n rows
 pub record IsTaken (first others each n c : ℕ) (cs : List ℕ) : Type 0 where
@@ -31,3 +32,14 @@ pub record IsFirstByList (o : Order) (s depth n : ℕ) (R : List ℕ → List (L
   pub size : sum c ≤ n
   pub dependent : Independent o (R c) → ⊥
   pub earlier : (d : List ℕ) → IsChoice s depth d → sum d ≤ n → LexBefore d c → Independent o (R d)
+
+-- each choice of at most n rows of s coordinates with `depth` rows each is independent
+abbrev pub AreIndependent : Order → ℕ → ℕ → ℕ → (List ℕ → List (List ℕ)) → Type 0
+AreIndependent o s depth n R = (c : List ℕ) → IsChoice s depth c → sum c ≤ n → Independent o (R c)
+
+-- this one is dependent, and each of them before it, by size and then by list, is independent
+pub record IsFirstBySize (o : Order) (s depth n : ℕ) (R : List ℕ → List (List ℕ)) (c : List ℕ) : Type 0 where
+  pub choice : IsChoice s depth c
+  pub size : sum c ≤ n
+  pub dependent : Independent o (R c) → ⊥
+  pub earlier : EarlierIndependent o s depth n R c

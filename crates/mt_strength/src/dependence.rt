@@ -18,7 +18,7 @@ pub(crate) fn dependence<L: Ledger>(
     steps: &mut Steps<L>,
 ) -> Result<Option<Vector>, AllocError>
     requires all { AllOf order m rows.now }
-    requires front { Independent order (take (length rows.now - 1) (lists_of rows.now)) }
+    requires prefix { Independent order (take (length rows.now - 1) (lists_of rows.now)) }
     ensures independent { IfOk result (λ r. MatchOption r
         (Independent order (lists_of rows.now))
         (λ c. (c.order ≡ order) × IsRelation order (lists_of rows.now) c.digits)) }
@@ -51,7 +51,7 @@ fn dependence_by<L: Ledger>(
     requires parts { blank.parts ≡ L.parts }
     requires some { 0 < L.parts }
     requires all { AllOf order m rows.now }
-    requires front { Independent order (take (length rows.now - 1) (lists_of rows.now)) }
+    requires prefix { Independent order (take (length rows.now - 1) (lists_of rows.now)) }
     ensures { IfOk result (λ r. MatchOption r
         (Independent order (lists_of rows.now))
         (λ c. (c.order ≡ order) × IsRelation order (lists_of rows.now) c.digits)) }
@@ -68,7 +68,7 @@ pub(crate) fn uncounted_dependence(
     rows: &[Vector],
 ) -> Result<Option<Vector>, AllocError>
     requires all { AllOf order m rows.now }
-    requires front { Independent order (take (length rows.now - 1) (lists_of rows.now)) }
+    requires prefix { Independent order (take (length rows.now - 1) (lists_of rows.now)) }
     ensures { IfOk result (λ r. MatchOption r
         (Independent order (lists_of rows.now))
         (λ c. (c.order ≡ order) × IsRelation order (lists_of rows.now) c.digits)) }

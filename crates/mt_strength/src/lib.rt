@@ -4,6 +4,7 @@
 mod byte_rows;
 mod checks;
 mod choice_rows;
+mod counted_search;
 mod dependence;
 mod lanes;
 mod packed_rows;
@@ -16,5 +17,6 @@ mod verdicts;
 mod walks;
 
 pub use checks::{Checked, Tested, choices_of};
+pub use counted_search::check_with;
 pub use sequences::{SeqVerdict, check_sequence};
 pub use verdicts::{Verdict, check, strength_of};

@@ -1,14 +1,17 @@
 //! Whether a system has a strength, and the first dependent choice where it has not.
-ghost use Rattle.std.specs.Prelude.{◌≡◌, ◌≤◌, IfOk};
+ghost use Rattle.std.specs.Prelude.{◌≡◌, ◌<◌, ◌≤◌, IfOk};
 ghost use Rattle.mt_system.specs.Rows.{rows_by, part_rows};
 ghost use Rattle.mt_strength.specs.Verdicts.{IsVerdict, IsVerdictAmong, IsGreatestStrength};
 
 use crate::choice_rows::choice_rows;
+use crate::counted_search::counted_first_dependent;
 use crate::dependence::uncounted_dependence;
 use crate::searches::first_choice;
-use mt_linear::Vector;
-use mt_system::{Choice, System, next_choice};
+use mt_linear::{Steps, Vector};
+use mt_system::{Choice, System};
 use std::alloc::{AllocError, Global};
+use std::marker::Brand;
+use std::sync::ledger::{Blank, Ledger};
 
 /// What `check` found.
 #[derive(Drop)]
@@ -38,7 +41,7 @@ pub(crate) fn first_dependent(
         (rows_by (part_rows system.now width))) }
 {
     if width > 32 || k > 32 {
-        return first_in_turn(alloc, system, width, depth, k);
+        return first_in_turn::<Brand>(alloc, system, width, depth, k, Blank::new(1));
     }
     let Some(choice) = first_choice(alloc, system, width, depth, k)? else {
         return Ok(Verdict::Holds);
@@ -51,32 +54,25 @@ pub(crate) fn first_dependent(
     })
 }
 
-// The same, by one choice after another.
-fn first_in_turn(
+// The same over one basis, by steps of this ledger that nobody counts.
+fn first_in_turn<L: Ledger>(
     alloc: Global,
     system: &System,
     width: u8,
     depth: u8,
     k: u8,
+    blank: Blank,
 ) -> Result<Verdict, AllocError>
+    requires name { blank.name ≡ L.name }
+    requires parts { blank.parts ≡ L.parts }
+    requires some { 0 < L.parts }
     requires narrow { width ≤ system.now.columns }
     requires few { depth ≤ system.now.depth }
     ensures { IfOk result (IsVerdictAmong system.now.order system.now.coordinates depth k
         (rows_by (part_rows system.now width))) }
 {
-    let mut choice = Choice::empty(alloc, system.s())?;
-    loop {
-        let rows = choice_rows(alloc, system, width, depth, &choice)?;
-        if let Some(coefficients) = uncounted_dependence(alloc, system.order(), width, &rows)? {
-            return Ok(Verdict::Dependent {
-                choice,
-                coefficients,
-            });
-        }
-        if !next_choice(&mut choice, depth, k) {
-            return Ok(Verdict::Holds);
-        }
-    }
+    let mut steps = Steps::<L>::of(blank);
+    counted_first_dependent(alloc, system, width, depth, k, &mut steps)
 }
 
 /// Whether the system has strength `k`: every choice of at most `k` first rows, taken over its

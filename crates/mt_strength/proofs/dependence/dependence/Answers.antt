@@ -30,10 +30,10 @@ returns-in-Depends-clause-independent g c =
     ap (λ (xs : List (List ℕ)). xs ++ c.row-item.result.digits ∷ []) c.loop-row.invariant.vectors
     ∙ sym (lists_more c.args.rows.now c.loop-row.row-index c.row-item.result (omega arith) c.row-item.is) in
     let lists_size = length-map c.args.rows.now (λ (x : Digits). x.digits) in
-    let front : Independent o (take (length (lists_of c.args.rows.now) - 1) (lists_of c.args.rows.now)) =
-    subst (λ n. Independent o (take (n - 1) (lists_of c.args.rows.now))) (sym lists_size) c.requires.front in
+    let prefix : Independent o (take (length (lists_of c.args.rows.now) - 1) (lists_of c.args.rows.now)) =
+    subst (λ n. Independent o (take (n - 1) (lists_of c.args.rows.now))) (sym lists_size) c.requires.prefix in
     let all : IsRelation o (lists_of c.args.rows.now) c.push.new.self.items =
-    whole o (lists_of c.args.rows.now) c.loop-row.row-index c.push.new.self.items (omega arith) front (subst (λ (xs : List (List ℕ)). IsRelation o xs c.push.new.self.items) more relation) in
+    whole o (lists_of c.args.rows.now) c.loop-row.row-index c.push.new.self.items (omega arith) prefix (subst (λ (xs : List (List ℕ)). IsRelation o xs c.push.new.self.items) more relation) in
     rw c.of_elements.ensures (refl, all)
 
 pub loop-row-preserved : goal.loop-row-preserved

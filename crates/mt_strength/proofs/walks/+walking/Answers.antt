@@ -122,10 +122,10 @@ walk_first-walk-requires t c =
     let some = c.requires.some in
     let few = c.requires.few in
     let size = c.clear_all.ensures.size in
-    let front = c.split_at_mut-next.ensures.front_len in
+    let prefix = c.split_at_mut-next.ensures.front_len in
     let back = c.split_at_mut-next.ensures.back_len in
     let whole = c.requires.laid.size in
-    let long : length c.clear_all.new.next ≡ 32 * (kept + c.args.others * width) = size ∙ front in
+    let long : length c.clear_all.new.next ≡ 32 * (kept + c.args.others * width) = size ∙ prefix in
     let m : c.args.others * width ≤ c.args.others * c.args.each = mul-le-mul_left c.args.others (let h : width ≤ c.args.each = omega arith in h) in (
       let d = c.decreases in omega arith,
       (
