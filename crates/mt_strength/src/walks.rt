@@ -113,6 +113,7 @@ fn is_left(
 }
 
 // The last coordinate of whose row that may come next nothing is left, once it is cleared.
+#[inline(always)]
 fn last_gone(
     order: Order,
     place: usize,
@@ -149,6 +150,7 @@ fn last_gone(
 }
 
 // As `walk_first`, for choices of at most two rows, where the first row is not zero.
+#[inline(always)]
 fn walk_pairs(
     order: Order,
     place: usize,
@@ -182,6 +184,7 @@ fn walk_pairs(
 
 // As `walk`, where each choice without a row of the first coordinate is known to be independent.
 #[cycle(walking)]
+#[inline(always)]
 fn walk_first(
     order: Order,
     rows: &[u8],
