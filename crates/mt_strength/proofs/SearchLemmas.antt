@@ -1,13 +1,12 @@
 -- Searches for a dependent choice, in the order of the lists of sizes: the two ways at a coordinate, and the whole.
-use Rattle.std.proofs.Common.{◌≡◌, inl, inr, ◌⊎◌, ℕ, zero, suc, ◌+◌, ◌-◌, ◌<◌, ◌≤◌, List, [], ◌∷◌, ◌++◌, length, sum, min, replicate, refl, sym, ap, ◌∙◌, subst, arith}
-use Rattle.std.proofs.lemmas.Bool.{cases_lt}
+use Rattle.std.proofs.Common.{◌≡◌, inl, inr, ◌⊎◌, ℕ, zero, suc, ◌+◌, ◌<◌, ◌≤◌, List, [], ◌∷◌, ◌++◌, sum, min, replicate, refl, ap, arith}
 use Rattle.std.proofs.lemmas.List.{length-replicate}
 use Rattle.mt_linear.specs.declared.order.Order.{Order}
 use Rattle.mt_linear.specs.Linear.{Independent}
-use Rattle.mt_system.specs.Choices.{AllAtMost, IsChoice, LexBefore, Before}
+use Rattle.mt_system.specs.Choices.{AllAtMost, IsChoice, LexBefore}
 use Rattle.mt_system.specs.Rows.{rows_by, first_rows}
 use Rattle.mt_system.proofs.ChoiceOrder.{sum-cons}
-use Rattle.mt_strength.specs.Searches.{IsTaken, AllIndependent, IsFirstTaken, IsFound, IsFirstByList}
+use Rattle.mt_strength.specs.Searches.{IsTaken, AllIndependent, IsFound, IsFirstByList}
 use Rattle.mt_strength.specs.Verdicts.{EarlierIndependent}
 use Rattle.mt_strength.proofs.RowLemmas.{sum_zeros, lex_none, AllAtMost-zeros}
 
