@@ -7,7 +7,7 @@ use Rattle.mt_linear.specs.Field.{neg_of, inv_of}
 use Rattle.mt_strength.specs.Lanes.{IsLane, IsLanes, digit_of, digit_at}
 use Rattle.mt_strength.specs.Pivots.{HasMultiples, IsPivot, IsCleared}
 use Rattle.mt_strength.specs.Lanes.{row_at}
-use Rattle.mt_strength.specs.Walks.{IsLeft, SomeLeft, NoneLeft, HasNext, next_of, AreLeft, IsLastGone, clearing}
+use Rattle.mt_strength.specs.Walks.{IsLeft, SomeLeft, NoneLeft, AreLeft, IsLastGone, clearing}
 use Rattle.mt_strength.proofs.ByteLemmas.{row_byte}
 
 pub first_byte : (rows : List ℕ) (place : ℕ) → place < 32 → get_or (row_at rows 0) place 0 ≡ get_or rows place 0

@@ -1,5 +1,5 @@
 -- The rows of a system as bytes, and its strength by them.
-use Rattle.std.proofs.Common.{◌≡◌, inl, inr, ℕ, zero, suc, ◌+◌, ◌-◌, ◌*◌, ◌<◌, ◌≤◌, List, [], ◌∷◌, length, get_or, take, drop, map, sum, min, replicate, refl, sym, ap, ◌∙◌, subst, arith}
+use Rattle.std.proofs.Common.{◌≡◌, inl, inr, ℕ, zero, suc, ◌+◌, ◌-◌, ◌*◌, ◌<◌, ◌≤◌, List, length, get_or, take, drop, map, sum, min, replicate, sym, ap, ◌∙◌, subst, arith}
 use Rattle.std.proofs.lemmas.Bool.{cases_eq, cases_lt}
 use Rattle.std.proofs.lemmas.List.{get_or_past, length-take, get_or-take, get_or-drop}
 use Rattle.std.proofs.lemmas.Simd.{get_or-replicate}
@@ -8,9 +8,8 @@ use Rattle.mt_linear.specs.declared.order.Order.{Order}
 use Rattle.mt_linear.specs.Field.{number_of}
 use Rattle.mt_linear.proofs.FieldLaws.{number_pos}
 use Rattle.mt_linear.specs.Linear.{AllElements, Independent}
-use Rattle.mt_system.specs.Choices.{AllAtMost, IsChoice}
+use Rattle.mt_system.specs.Choices.{IsChoice}
 use Rattle.mt_system.specs.Rows.{Matrices, rows_by, part_rows, row_of}
-use Rattle.mt_system.proofs.ChoiceOrder.{sum-cons, AllAtMost-at}
 use Rattle.mt_strength.specs.Lanes.{HasLanes, IsLanes, lane_of, digit_of}
 use Rattle.mt_strength.specs.Lanes.{row_at}
 use Rattle.mt_strength.specs.Walks.{IsLaid, digits_in}

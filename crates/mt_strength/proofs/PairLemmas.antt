@@ -7,13 +7,13 @@ use Rattle.std.proofs.Math.ListN.{set}
 use Rattle.std.proofs.lemmas.Simd.{length-zip2, get_or-zip2}
 use Rattle.mt_linear.specs.declared.order.Order.{Order}
 use Rattle.mt_linear.specs.Field.{add_of, mul_of}
-use Rattle.mt_linear.specs.Linear.{AllElements, Independent}
+use Rattle.mt_linear.specs.Linear.{Independent}
 use Rattle.mt_linear.proofs.FieldLaws.{add_lt, mul_zero}
 use Rattle.mt_linear.proofs.Combination.{zero_add_zero}
 use Rattle.mt_linear.proofs.Reduction.{Independent-nil}
 use Rattle.mt_system.specs.Choices.{AllAtMost, LexBefore}
 use Rattle.mt_system.specs.Rows.{rows_by}
-use Rattle.mt_system.proofs.ChoiceOrder.{sum-cons, AllAtMost-at}
+use Rattle.mt_system.proofs.ChoiceOrder.{sum-cons}
 use Rattle.mt_strength.specs.Lanes.{row_at, IsLanes, digit_of, digit_at}
 use Rattle.mt_strength.specs.Searches.{IsTaken, AllIndependent, IsFound}
 use Rattle.mt_strength.specs.Walks.{IsLaid, SomeLeft, NoneLeft, HasNext, next_of, AreLeft, IsLastGone, digits_in, clearing}

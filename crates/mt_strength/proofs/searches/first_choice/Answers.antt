@@ -1,8 +1,8 @@
-use Rattle.std.proofs.Common.{◌≡◌, ◌+◌, ◌-◌, ◌<◌, ◌*◌, ℕ, suc, List, length, drop, sym, ap, ◌∙◌, subst, arith}
+use Rattle.std.proofs.Common.{◌≡◌, ◌-◌, ℕ, List, length, drop, sym, ap, ◌∙◌, subst, arith}
 use Rattle.std.proofs.lemmas.List.{take_at}
 use Rattle.mt_linear.specs.declared.order.Order.{Order}
 use Rattle.mt_system.specs.Rows.{rows_by}
-use Rattle.mt_strength.specs.FirstChoices.{IsLeastFound, IsFirstChoice}
+use Rattle.mt_strength.specs.FirstChoices.{IsLeastFound}
 use Rattle.mt_strength.specs.Searches.{AllIndependent}
 use Rattle.mt_strength.specs.Walks.{digits_in}
 use Rattle.mt_strength.proofs.PackedLemmas.{laid_packed, all_packed, first_packed}

@@ -1,4 +1,4 @@
-use Rattle.std.proofs.Common.{◌≡◌, ◌+◌, ◌-◌, ◌<◌, ◌≤◌, sum, sym, ap, ◌∙◌, arith}
+use Rattle.std.proofs.Common.{◌≡◌, ◌-◌, sum, ap, ◌∙◌, arith}
 use Rattle.mt_system.specs.Rows.{rows_by}
 use Rattle.mt_strength.specs.Walks.{digits_in}
 use Rattle.mt_strength.proofs.FallingLemmas.{found_size, found_sum, found_some, least_found}

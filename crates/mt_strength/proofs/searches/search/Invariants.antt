@@ -1,4 +1,4 @@
-use Rattle.std.proofs.Common.{◌≡◌, ◌+◌, ◌≤◌, length, sum}
+use Rattle.std.proofs.Common.{◌≤◌, sum}
 use Rattle.mt_system.specs.Rows.{rows_by}
 use Rattle.mt_strength.specs.Searches.{IsFound}
 use Rattle.mt_strength.specs.Walks.{digits_in}

@@ -1,7 +1,6 @@
-use Rattle.std.proofs.Common.{◌≡◌, ℕ, Option, Some, None, MatchOption, IsSome, List, rules}
-use Rattle.mt_linear.specs.declared.order.Order.{Order}
+use Rattle.std.proofs.Common.{ℕ, Option, Some, None, MatchOption, IsSome, List, rules}
 use Rattle.mt_linear.specs.Linear.{Independent}
-use Rattle.mt_system.specs.Rows.{Matrices, part_rows, rows_by}
+use Rattle.mt_system.specs.Rows.{Matrices, part_rows}
 use Rattle.mt_strength.specs.Dependence.{lists_of}
 use Rattle.mt_strength.specs.FirstChoices.{IsFirstChoice}
 use Rattle.mt_strength.proofs.RowLemmas.{Passed, all_but_last_rows, independent_rows, dependent_rows}

@@ -1,5 +1,5 @@
-use Rattle.std.proofs.Common.{◌≡◌, ℕ, suc, ◌+◌, ◌-◌, ◌*◌, ◌<◌, ◌≤◌, List, length, get_or, drop, replicate, refl, sym, ap, ◌∙◌, arith, subst, length-drop}
-use Rattle.std.specs.Bool.{OnTrue, OnFalse}
+use Rattle.std.proofs.Common.{◌≡◌, ℕ, suc, ◌+◌, ◌-◌, ◌*◌, ◌<◌, ◌≤◌, List, length, get_or, replicate, refl, sym, ap, ◌∙◌, arith, subst, length-drop}
+use Rattle.std.specs.Bool.{OnTrue}
 use Rattle.std.proofs.Math.ListN.{set}
 use Rattle.std.proofs.Math.Nat.{mul-le-mul_left}
 use Rattle.mt_system.specs.Rows.{rows_by}
@@ -7,7 +7,7 @@ use Rattle.mt_strength.specs.Searches.{AllIndependent, IsFound}
 use Rattle.mt_strength.specs.Walks.{OthersIndependent, digits_in}
 use Rattle.mt_strength.proofs.ClearedChoices.{all_one, all_left, found_left, zero_row}
 use Rattle.mt_strength.proofs.SearchLemmas.{raised, IsFound-one}
-use Rattle.mt_strength.proofs.WalkLemmas.{all_empty, all_others, all_raised, found_raised, others_behind, found_behind, IsLaid-left, IsLaid-behind, room_behind, room_left, slice_behind, on_true, on_false, digit_some, behind_written, length-behind}
+use Rattle.mt_strength.proofs.WalkLemmas.{all_empty, all_others, all_raised, found_raised, others_behind, found_behind, IsLaid-left, IsLaid-behind, room_behind, room_left, slice_behind, digit_some, behind_written, length-behind}
 use Rattle.mt_strength.proofs.walks.+walking.Goals as goal
 
 pub walk-returns-then-n-eq0-clause-independent : goal.walk-returns-then-n-eq0-clause-independent

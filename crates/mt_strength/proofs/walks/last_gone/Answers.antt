@@ -1,6 +1,5 @@
-use Rattle.std.proofs.Common.{◌≡◌, ◌+◌, ◌-◌, ◌*◌, sym, ◌∙◌, arith, subst}
+use Rattle.std.proofs.Common.{◌≡◌, ◌+◌, ◌-◌, ◌*◌, ◌∙◌, arith, subst}
 use Rattle.mt_strength.specs.Lanes.{row_at, IsLanes}
-use Rattle.mt_strength.specs.Pivots.{IsPivot}
 use Rattle.mt_strength.proofs.ClearLemmas.{first_lane, first_digit, clearing_is, pivot_by, one_left, all_left, gone_at}
 use Rattle.mt_strength.proofs.walks.last_gone.Goals as goal
 use Rattle.mt_strength.proofs.walks.last_gone.Goals.{else-first-gt1-via-then-first-gt1+else-not-is_left-2, else-first-gt1-via-else-first-gt1}

@@ -1,4 +1,4 @@
-use Rattle.std.proofs.Common.{◌≡◌, ◌+◌, ℕ, suc, List, get_or, length, ap, arith}
+use Rattle.std.proofs.Common.{◌+◌, ℕ, suc, List, get_or, length, ap, arith}
 use Rattle.std.proofs.Math.ListN.{set}
 use Rattle.mt_system.specs.Rows.{rows_by}
 use Rattle.mt_strength.specs.Walks.{IsLastGone, digits_in}
