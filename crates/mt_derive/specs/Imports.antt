@@ -42,10 +42,6 @@ pub record ImportList : Type 0 where
   pub bounds : Bounds
   pub list : List Statement
 
--- how many imports there may be
-abbrev pub most_imports : ℕ
-most_imports = 1024
-
 -- how many digits an import in the bounds may have
 abbrev pub digits_of : Bounds → ℕ
 digits_of b = b.s_max * b.m_max * b.m_max

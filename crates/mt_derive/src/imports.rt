@@ -3,7 +3,6 @@ ghost use Rattle.std.specs.Prelude.{◌≡◌, ◌≤◌, [], length};
 ghost use Rattle.mt_system.specs.Refusals.{wanted_of};
 ghost use Rattle.mt_system.specs.Statements.{statement_of};
 ghost use Rattle.mt_strength.specs.Statements.{Holds};
-ghost use Rattle.mt_derive.specs.Imports.{most_imports};
 
 use mt_cells::Bounds;
 use mt_strength::Checked;
@@ -11,10 +10,11 @@ use mt_system::{Claim, System};
 use std::alloc::{AllocError, Global};
 use std::marker::Model;
 
-const MOST_IMPORTS: usize = 1024;
+/// How many imports there may be.
+pub const MOST_IMPORTS: usize = 1024;
 
-/// The accepted imports in the order in which they came, with room for 1,024 of them within the
-/// bounds.
+/// The accepted imports in the order in which they came, with room for as many of them within the
+/// bounds as there may be.
 #[derive(Drop)]
 pub struct Imports {
     bounds: Bounds,
@@ -25,14 +25,15 @@ pub struct Imports {
 
 impl Model for Imports {
     ghost use Rattle.std.specs.Prelude.{◌≡◌, ◌+◌, ◌≤◌, [], length, All};
-    ghost use Rattle.mt_derive.specs.Imports.{ImportList, AllInside, digits_of, most_imports};
+    ghost use Rattle.mt_derive.specs.declared.imports.TheConstants.{MOST_IMPORTS};
+    ghost use Rattle.mt_derive.specs.Imports.{ImportList, AllInside, digits_of};
 
     ghost Value = { ImportList };
 
     ghost view = { λ a. record { bounds = a.bounds; list = a.list.items } };
 
-    ghost invariant = { λ a. (length a.list.items + length a.free.items ≡ most_imports)
-        × (most_imports ≤ a.list.cap)
+    ghost invariant = { λ a. (length a.list.items + length a.free.items ≡ MOST_IMPORTS)
+        × (MOST_IMPORTS ≤ a.list.cap)
         × All (λ f. (f.items ≡ []) × (digits_of a.bounds ≤ f.cap)) a.free.items
         × AllInside a.bounds a.list.items };
 }
@@ -42,7 +43,7 @@ impl Imports {
     ghost use Rattle.mt_cells.specs.Cells.{InBounds};
     ghost use Rattle.mt_derive.specs.Imports.{cell_by, IsImport};
 
-    /// No imports, with room for 1,024. It takes all its room at once, or refuses.
+    /// No imports, with room for as many as there may be. It takes all its room at once, or refuses.
     pub fn with_room(alloc: Global, bounds: Bounds) -> Result<Imports, AllocError>
         ensures { IfOk result (λ a. a ≡ record { bounds = bounds; list = [] }) }
     {
@@ -57,7 +58,7 @@ impl Imports {
 
     /// Appends a copy of the import. It takes no memory: there is room.
     pub fn push(&mut self, entry: &Checked)
-        requires few { length self.old.list < most_imports }
+        requires few { length self.old.list < MOST_IMPORTS }
         requires inside { InBounds self.old.bounds (cell_by entry.now.form entry.now.system) }
         ensures list { self.new.list ≡ self.old.list ++ entry.now ∷ [] }
         ensures bounds { self.new.bounds ≡ self.old.bounds }
@@ -111,11 +112,10 @@ fn copied(claim: &Claim, room: Vec<u8>) -> Checked
         digits.push_reserved(*digit);
     }
     let (order, m, s, depth) = (system.order(), system.m(), system.s(), system.depth());
-    let Ok(system) = System::new(order, m, s, depth, digits) else {
-        unreachable!();
-    };
-    let Some(claim) = Claim::new(claim.form, claim.name, claim.k, system) else {
-        unreachable!();
-    };
-    Checked::known(claim)
+    Checked::known(Claim {
+        form: claim.form,
+        name: claim.name,
+        k: claim.k,
+        system: System::of_elements(order, m, s, depth, digits),
+    })
 }

@@ -8,7 +8,7 @@ ghost use Rattle.mt_derive.specs.Built.{IsBuilt, IsKnown, AreKnown, ShowsImport,
 use crate::imports::Imports;
 use crate::nodes::{Made, Nodes};
 use crate::reached_nodes::reachable;
-use crate::rule_system::{axiom_system, copy_of, made_by, made_by_two};
+use crate::rule_system::{axiom_system, made_by, made_by_two};
 use mt_system::System;
 use std::alloc::{AllocError, Global};
 
@@ -62,7 +62,7 @@ fn system_of(
 {
     let node = nodes.get(number);
     match node.made {
-        Made::Import(n) => copy_of(alloc, &imports.get(n).system),
+        Made::Import(n) => imports.get(n).system.copy(alloc),
         Made::One(rule, parent) => made_by(alloc, rule, system_at(order, systems, parent)),
         Made::Two(rule, first, second) => {
             let first = system_at(order, systems, first);

@@ -69,7 +69,7 @@ module _ {K : Type 0} (F : Ops K) (L : HasFieldLaws F) where
             (product_kills_sum F L s P w killed)
             (λ c h. begins c (omega (arith, size_most s d e)))
 
-    -- the quality is the sum of the degrees less 1
+    -- the quality parameter is the sum of the degrees less 1
     pub quality : HasSequenceStrength F R s m (m - size_of s (λ i. e i - 1))
     quality n le d deep size x z i j hi hj = elim (cases_lt n (size_of s d + size_of s (λ i. e i - 1))) [
       | inl k ↦ absurd (let q : d i ≤ size_of s d = size_at s d i hi in omega arith)

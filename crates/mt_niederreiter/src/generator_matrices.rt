@@ -26,8 +26,5 @@ pub fn matrices(alloc: Global, order: Order, m: u8, s: u8) -> Result<System, All
     for coordinate in 0..list.len() {
         push_rows(alloc, order, &list, coordinate, m, &mut digits)?;
     }
-    match System::new(order, m, s, m, digits) {
-        Ok(system) => Ok(system),
-        Err(_) => unreachable!(),
-    }
+    Ok(System::of_elements(order, m, s, m, digits))
 }

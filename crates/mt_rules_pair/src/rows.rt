@@ -1,5 +1,5 @@
 //! Rows of a parent of lesser depth.
-ghost use Rattle.std.specs.Prelude.{◌≡◌, ◌<◌, ◌≤◌};
+ghost use Rattle.std.specs.Prelude.{◌≡◌, ◌<◌};
 ghost use Rattle.mt_linear.specs.Field.{number_of};
 ghost use Rattle.mt_rules_pair.specs.Pairs.{deepened};
 

@@ -64,11 +64,11 @@ returns-in-Import c =
     c.requires.shown c.in-Import.n c.get-node.result c.get-node.ensures.place c.in-Import.is in
     let same : import.0 ≡ statement_of c.get.result.now =
     place_same c.args.imports.now.list (c.in-Import.n - 1) import.0 (statement_of c.get.result.now) import.1.1 c.get.ensures.place.1 in
-    IfOk-weaker c.copy_of.result (λ a. a ≡ c.get.result.now.system) (IsKnown c.args.nodes.now.list c.args.imports.now.list c.args.number)
+    IfOk-weaker c.copy.result (λ a. a ≡ c.get.result.now.system) (IsKnown c.args.nodes.now.list c.args.imports.now.list c.args.number)
     (λ a e. subst (λ z. IsKnown c.args.nodes.now.list c.args.imports.now.list c.args.number z) (sym e)
     (import_known c.args.nodes.now.list c.args.imports.now.list c.args.number c.in-Import.n c.get-node.result (statement_of c.get.result.now)
     c.get-node.ensures.place c.in-Import.is c.get.ensures.place (ap entry_of (sym same) ∙ import.2) c.get.result.now.is_claim c.get.ensures.holds))
-    c.copy_of.ensures
+    c.copy.ensures
 
 pub returns-in-One : goal.returns-in-One
 returns-in-One c =

@@ -30,9 +30,9 @@ returns-clause-rows c =
       polynomials = ps;
       count = size;
       list = c.in_ok-list.ensures.list;
-      rows = system_rows o c.args.m c.args.s ps c.loop-coordinate.digits.items c.in-Ok.system c.in-Ok.ensures size rows;
+      rows = system_rows o c.args.m c.args.s ps c.loop-coordinate.digits.items c.of_elements.result c.of_elements.ensures size rows;
     }
 
 pub returns-clause-strength : goal.returns-clause-strength
 returns-clause-strength c = λ t.
-    matrices_strength c.args.order c.args.m c.args.s t c.in-Ok.system c.requires.columns c.requires.coordinates (returns-clause-rows c)
+    matrices_strength c.args.order c.args.m c.args.s t c.of_elements.result c.requires.columns c.requires.coordinates (returns-clause-rows c)
