@@ -8,6 +8,7 @@ use Rattle.std.proofs.lemmas.Fmt.{decimal_digit, decimal_injective, first_decima
 use Rattle.std.proofs.lemmas.Str.Parse.{IsNumeralModel, numerals_by_value, tells_digits, not_in_digits}
 use Rattle.std.proofs.lemmas.Str.Pattern.{IsSplitOnceResult, split_after}
 use Rattle.mt_cells.specs.declared.bounds.Bounds.{Bounds}
+use Rattle.mt_cells.specs.declared.bounds.TheConstants.{MOST_COLUMNS, MOST_COORDINATES}
 use Rattle.mint.specs.Words.{IsPlain, bounds_word}
 
 pub own : IsNumeralModel (AllDigits 10) (digits_value 10)
@@ -42,7 +43,7 @@ bounds_cut word r cut b e =
     split_after 44 word (decimal b.m_max) (decimal b.s_max) r cut (omega arith) e (not_in_digits own (decimal b.m_max) 44 digits (λ range. omega (arith, range.0)))
 
 -- the numbers of the parts are those of the bounds
-pub same_bounds : (b : Bounds) (m s : ℕ) → m < 2 ^ 64 → s < 2 ^ 64 → decimal m ≡ decimal b.m_max → decimal s ≡ decimal b.s_max → (1 ≤ m) × (m ≤ 16) × (1 ≤ s) × (s ≤ 32)
+pub same_bounds : (b : Bounds) (m s : ℕ) → m < 2 ^ 64 → s < 2 ^ 64 → decimal m ≡ decimal b.m_max → decimal s ≡ decimal b.s_max → (1 ≤ m) × (m ≤ MOST_COLUMNS) × (1 ≤ s) × (s ≤ MOST_COORDINATES)
 same_bounds b m s small low e f =
     let m_high = b.m_high in
     let s_high = b.s_high in
@@ -53,7 +54,7 @@ same_bounds b m s small low e f =
 -- what a word of bounds says, from its two parts
 pub bounds_read : (word prefix back : List ℕ) (m s : ℕ) → word ≡ prefix ++ 44 ∷ back → prefix ≡ decimal m → back ≡ decimal s → m < 2 ^ 64 → s < 2 ^ 64
     → ((b : Bounds) → word ≡ bounds_word b → (prefix ≡ decimal b.m_max) × (back ≡ decimal b.s_max)) → (r : Option Bounds)
-    → (IsSome r ↔ ((1 ≤ m) × (m ≤ 16) × (1 ≤ s) × (s ≤ 32))) → IfSome r (λ b. b.m_max ≡ m) → IfSome r (λ b. b.s_max ≡ s)
+    → (IsSome r ↔ ((1 ≤ m) × (m ≤ MOST_COLUMNS) × (1 ≤ s) × (s ≤ MOST_COORDINATES))) → IfSome r (λ b. b.m_max ≡ m) → IfSome r (λ b. b.s_max ≡ s)
     → MatchOption r ((b : Bounds) → word ≢ bounds_word b) (λ b. word ≡ bounds_word b)
 bounds_read word prefix back m s whole prefix_is back_is small low cut None taken m_is s_is = λ b e.
     let parts = cut b e in

@@ -8,6 +8,7 @@ use Rattle.mt_import.specs.Texts.{IsImport, IsRefusal}
 use Rattle.mt_import.specs.Canonical.{IsTextOf}
 use Rattle.mt_cells.specs.declared.asks.Part.{Part}
 use Rattle.mt_cells.specs.declared.asks.Part.TheVariants.{Q, M, S, Depth}
+use Rattle.mint.specs.declared.checks.TheConstants.{MOST_CHOICES}
 use Rattle.mint.specs.declared.checks.Outcome.{Outcome}
 use Rattle.mint.specs.declared.checks.Outcome.TheVariants as outcome
 
@@ -37,18 +38,18 @@ choices c = choices_by c.form c.system c.k
 
 -- what is found where a system may have m_max columns and s_max coordinates
 abbrev pub IsOutcome : ℕ → ℕ → List ℕ → Outcome → Type 0
-IsOutcome m_max s_max text (outcome.Holds c) = IsWithin m_max s_max text c × (choices c ≤ 500000) × Holds c
+IsOutcome m_max s_max text (outcome.Holds c) = IsWithin m_max s_max text c × (choices c ≤ MOST_CHOICES) × Holds c
 IsOutcome m_max s_max text (outcome.Form refused) = IsRefusal text refused
 IsOutcome m_max s_max text (outcome.Range name number limit) = IsOutside m_max s_max text name number limit
 IsOutcome m_max s_max text (outcome.TooManyChoices count) =
-    (c : Statement) × IsWithin m_max s_max text c × (500000 < choices c) × (count ≡ min (choices c) (2 ^ 64 - 1))
+    (c : Statement) × IsWithin m_max s_max text c × (MOST_CHOICES < choices c) × (count ≡ min (choices c) (2 ^ 64 - 1))
 IsOutcome m_max s_max text (outcome.Dependent form part choice coefficients) =
-    (c : Statement) × IsWithin m_max s_max text c × (choices c ≤ 500000) × (form ≡ c.form) × IsFailure c.form c.system c.k part choice coefficients
+    (c : Statement) × IsWithin m_max s_max text c × (choices c ≤ MOST_CHOICES) × (form ≡ c.form) × IsFailure c.form c.system c.k part choice coefficients
 
 -- what is found of a claim, whatever its sizes
 abbrev pub IsClaimOutcome : Statement → Outcome → Type 0
-IsClaimOutcome c (outcome.Holds d) = (d ≡ c) × (choices c ≤ 500000) × Holds c
+IsClaimOutcome c (outcome.Holds d) = (d ≡ c) × (choices c ≤ MOST_CHOICES) × Holds c
 IsClaimOutcome c (outcome.Form refused) = ⊥
 IsClaimOutcome c (outcome.Range name number limit) = ⊥
-IsClaimOutcome c (outcome.TooManyChoices count) = (500000 < choices c) × (count ≡ min (choices c) (2 ^ 64 - 1))
-IsClaimOutcome c (outcome.Dependent form part choice coefficients) = (choices c ≤ 500000) × (form ≡ c.form) × IsFailure c.form c.system c.k part choice coefficients
+IsClaimOutcome c (outcome.TooManyChoices count) = (MOST_CHOICES < choices c) × (count ≡ min (choices c) (2 ^ 64 - 1))
+IsClaimOutcome c (outcome.Dependent form part choice coefficients) = (choices c ≤ MOST_CHOICES) × (form ≡ c.form) × IsFailure c.form c.system c.k part choice coefficients

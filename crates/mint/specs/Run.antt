@@ -15,7 +15,8 @@ use Rattle.mt_cells.specs.Instances.{has_rule}
 use Rattle.mt_table.specs.Tables.{Contents}
 use Rattle.mt_answer.specs.declared.texts.Text.{Text}
 use Rattle.mt_answer.specs.Answers.{IsAnswer}
-use Rattle.mt_answer.specs.Texts.{outside_text}
+use Rattle.mt_answer.specs.Texts.{outside_line_text}
+use Rattle.mint.specs.declared.command.TheConstants.{MOST_READ}
 use Rattle.mint.specs.declared.status.Status.{Status}
 use Rattle.mint.specs.declared.status.Status.TheVariants.{Ok, Memory, Words, Refused, ReadFault, WriteFault, Outside}
 use Rattle.mint.specs.declared.checks.Outcome.{Outcome}
@@ -44,10 +45,10 @@ pub record IsCheck (b : Bounds) (text : List ℕ) (status : Status) (output : Li
   pub status_is : status ≡ outcome_status found
   pub output_is : output ≡ outcome_text found
 
--- the status and the output for the text on the input, up to its end or its 65,537th byte
+-- the status and the output for the text on the input, up to its end or as many bytes as are read at most
 pub record IsChecked (b : Bounds) (before after : Option (List ℕ)) (status : Status) (output : List ℕ) : Type 0 where
   pub text : List ℕ
-  pub input : IsInput 65537 before after text
+  pub input : IsInput MOST_READ before after text
   pub check : IsCheck b text status output
 
 -- the status and the output for a question to a table of all rules, which has no imports
@@ -77,7 +78,7 @@ pub record IsSequenceText (o : Order) (m s : ℕ) (output : List ℕ) : Type 0 w
 -- the status and the output for Niederreiter's matrices of these sizes
 abbrev pub IsNiederreiter : Bounds → Ask → Status → List ℕ → Type 0
 IsNiederreiter b a Ok output = (o : Order) × (m s : ℕ) × IsAsked b a (Seq o m s) × IsSequenceText o m s output
-IsNiederreiter b a Outside output = (name : Part) × (number : ℕ) × IsOutside b a name number × (output ≡ outside_text name number)
+IsNiederreiter b a Outside output = (name : Part) × (number : ℕ) × IsOutside b a name number × (output ≡ outside_line_text name number)
 IsNiederreiter b a status output = ⊥
 
 -- what a task does

@@ -5,11 +5,13 @@ use Rattle.mt_system.specs.declared.claims.Form.{Form}
 use Rattle.mt_system.specs.declared.claims.Form.TheVariants.{Ooa, Net, Seq}
 use Rattle.mt_system.specs.Rows.{Matrices}
 use Rattle.mt_import.specs.Canonical.{canonical_text}
+use Rattle.mt_import.specs.declared.import_text.TheConstants.{MOST_BYTES}
 use Rattle.mt_import.specs.declared.refusals.FormRefused.{FormRefused}
 use Rattle.mt_import.specs.declared.refusals.FormRefused.TheVariants.{TooLong, Line}
 use Rattle.mt_import.specs.declared.refusals.Wanted.{Wanted}
 use Rattle.mt_import.specs.declared.refusals.Wanted.TheVariants.{Header, Row, Blank}
-use Rattle.mt_answer.specs.Texts.{part_text}
+use Rattle.mt_cells.specs.Texts.{part_text}
+use Rattle.mint.specs.declared.checks.TheConstants.{MOST_CHOICES}
 use Rattle.mint.specs.declared.checks.Outcome.{Outcome}
 use Rattle.mint.specs.declared.checks.Outcome.TheVariants as outcome
 
@@ -23,7 +25,7 @@ wanted_text Row = codes " is no row\n"
 wanted_text Blank = codes " is not blank\n"
 
 abbrev pub form_text : FormRefused → List ℕ
-form_text TooLong = codes "refused: more than 65536 bytes\n"
+form_text TooLong = codes "refused: more than " ++ decimal MOST_BYTES ++ codes " bytes\n"
 form_text (Line line wanted) = codes "refused: line " ++ decimal line ++ wanted_text wanted
 
 -- decimal numbers with commas between them
@@ -42,7 +44,8 @@ outcome_text (outcome.Holds c) = codes "holds " ++ c.name ++ 10 ∷ []
 outcome_text (outcome.Form refused) = form_text refused
 outcome_text (outcome.Range name number limit) =
     codes "refused: " ++ part_text name ++ 32 ∷ decimal number ++ codes " is over " ++ decimal limit ++ 10 ∷ []
-outcome_text (outcome.TooManyChoices count) = codes "refused: " ++ decimal count ++ codes " choices, more than 500000\n"
+outcome_text (outcome.TooManyChoices count) =
+    codes "refused: " ++ decimal count ++ codes " choices, more than " ++ decimal MOST_CHOICES ++ 10 ∷ []
 outcome_text (outcome.Dependent form part choice coefficients) =
     codes "refused: " ++ failing_part form part ++ codes "choice " ++ listed choice ++ codes " depends with " ++ listed coefficients.digits ++ 10 ∷ []
 

@@ -5,6 +5,7 @@ use Rattle.mt_cells.specs.declared.asks.Kind.{Kind}
 use Rattle.mt_cells.specs.declared.asks.Kind.TheVariants.{Net, Oa, Ooa, Seq}
 use Rattle.mt_cells.specs.declared.asks.Ask.{Ask}
 use Rattle.mt_cells.specs.declared.asks.Question.TheVariants.{Value, Tree, Matrix, Table, Export}
+use Rattle.mt_cells.specs.Texts.{kind_text}
 use Rattle.mint.specs.declared.words.Task.{Task}
 use Rattle.mint.specs.declared.words.Task.TheVariants as task
 use Rattle.mint.specs.declared.words.Command.{Command}
@@ -12,12 +13,6 @@ use Rattle.mint.specs.declared.words.Command.{Command}
 -- `M,S`
 abbrev pub bounds_word : Bounds → List ℕ
 bounds_word b = decimal b.m_max ++ 44 ∷ decimal b.s_max
-
-abbrev pub kind_word : Kind → List ℕ
-kind_word Net = codes "net"
-kind_word Oa = codes "oa"
-kind_word Ooa = codes "ooa"
-kind_word Seq = codes "seq"
 
 -- a word in which no plus stands first, and a zero only where it is alone
 pub record IsPlain (word : List ℕ) : Type 0 where
@@ -43,7 +38,7 @@ pub record IsSizes (kind : Kind) (words : List (List ℕ)) (a : Ask) : Type 0 wh
 -- these words ask for a question's kind and sizes
 pub record IsAskFor (words : List (List ℕ)) (a : Ask) : Type 0 where
   pub sizes : List (List ℕ)
-  pub words_are : words ≡ kind_word a.kind ∷ sizes
+  pub words_are : words ≡ kind_text a.kind ∷ sizes
   pub is_sizes : IsSizes a.kind sizes a
 
 -- these words are two numbers

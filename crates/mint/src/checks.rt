@@ -10,8 +10,8 @@ use mt_strength::{Checked, Tested, choices_of};
 use mt_system::{Choice, Claim, Form};
 use std::alloc::{AllocError, Global};
 
-// How many choices a check may try.
-const MOST_CHOICES: u64 = 500_000;
+/// The most choices that a check tries.
+pub const MOST_CHOICES: u64 = 500_000;
 
 /// What a check of an import text found.
 #[derive(Drop)]
@@ -26,7 +26,7 @@ pub enum Outcome {
         number: u8,
         limit: u8,
     },
-    /// The check might try so many choices, which are more than 500,000.
+    /// The check might try so many choices, which are more than [`MOST_CHOICES`].
     TooManyChoices {
         count: u64,
     },

@@ -15,19 +15,20 @@ use crate::texts::{USAGE, outcome_line};
 use crate::words::{Command, Task, read_words};
 use mt_answer::{outside_line, text};
 use mt_cells::{Ask, Bounds, Cell, Kind, Question, RuleSet, Steps};
+use mt_import::MOST_BYTES;
 use mt_io::{Failed, Sink, Source};
 use mt_table::Table;
 use std::alloc::{AllocError, Global};
 use std::marker::Brand;
 use std::sync::ledger::{Blank, Ledger};
 
-// One more byte than a text may have.
-const MOST: usize = 65537;
+/// The most bytes of the input that a check reads: one more than an import text may have.
+pub const MOST_READ: usize = MOST_BYTES + 1;
 
 /// Does what the words ask for, with this input and output, and answers how it ended.
 ///
-/// `M,S check` reads one import text from the input, to its end or its 65,537th byte, and writes
-/// whether its claim holds. `M,S value` and a question write the greatest value that a derivation
+/// `M,S check` reads one import text from the input, to its end or to [`MOST_READ`] bytes, and
+/// writes whether its claim holds. `M,S value` and a question write the greatest value that a derivation
 /// has for a cell, `M,S tree` and the same question a derivation with this value, and `M,S matrix`
 /// the generator matrices that it makes, as an import text. `M,S table` and `M,S export` write the
 /// values of many cells, and `M,S niederreiter` the generator matrices of a sequence, as an import
@@ -46,7 +47,7 @@ pub fn run_command<R: Source, W: Sink>(
     ensures unwritten { (result ≡ Status.Memory) ⊎ (result ≡ Status.ReadFault)
         → output.new ≡ output.old }
     ensures unread { AsksForNoCheck (map string_bytes words.now) → input.new ≡ input.old }
-    ensures most { TakesAtMost 65537 (R.left input.old) (R.left input.new) }
+    ensures most { TakesAtMost MOST_READ (R.left input.old) (R.left input.new) }
 
     // It doesn't give up by itself.
     ensures read_fault { result ≡ Status.ReadFault
@@ -75,7 +76,7 @@ struct Answer {
 fn done<R: Source>(alloc: Global, command: Command, input: &mut R) -> Result<Answer, InputRefused>
     ensures answer { IfOk result (λ a. Does command.bounds command.task (R.left input.old)
         (R.left input.new) a.status a.text.items) }
-    ensures most { TakesAtMost 65537 (R.left input.old) (R.left input.new) }
+    ensures most { TakesAtMost MOST_READ (R.left input.old) (R.left input.new) }
     ensures unread { command.task ≢ Task.Check → input.new ≡ input.old }
     ensures fault { IsErrOf result InputRefused.Fault → (command.task ≡ Task.Check)
         × Rose (R.faults input.old) (R.faults input.new) }
@@ -95,11 +96,11 @@ fn checked_input<R: Source>(
 ) -> Result<Answer, InputRefused>
     ensures answer { IfOk result (λ a. IsChecked bounds (R.left input.old) (R.left input.new)
         a.status a.text.items) }
-    ensures most { TakesAtMost 65537 (R.left input.old) (R.left input.new) }
+    ensures most { TakesAtMost MOST_READ (R.left input.old) (R.left input.new) }
     ensures fault { IsErrOf result InputRefused.Fault
         → Rose (R.faults input.old) (R.faults input.new) }
 {
-    let text = read_input(alloc, input, MOST)?;
+    let text = read_input(alloc, input, MOST_READ)?;
     Ok(checked_text(alloc, bounds, &text)?)
 }
 

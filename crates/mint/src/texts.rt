@@ -1,11 +1,12 @@
 //! The texts that the program writes.
 ghost use Rattle.std.specs.Prelude.{◌≡◌, [], ◌∷◌, ◌++◌, codes, decimal, flat_map, IfOk, OnOk};
-ghost use Rattle.mt_answer.specs.Texts.{part_text};
+ghost use Rattle.mt_cells.specs.Texts.{part_text};
+ghost use Rattle.mint.specs.declared.checks.TheConstants.{MOST_CHOICES};
 ghost use Rattle.mint.specs.Texts.{form_text, failing_part, listed, outcome_text};
 
-use crate::checks::Outcome;
+use crate::checks::{MOST_CHOICES, Outcome};
 use mt_cells::Part;
-use mt_import::{FormRefused, Wanted};
+use mt_import::{FormRefused, MOST_BYTES, Wanted};
 use mt_system::Form;
 use std::alloc::{AllocError, Global};
 
@@ -46,7 +47,8 @@ fn form_line(alloc: Global, refused: FormRefused) -> Result<Vec<u8>, AllocError>
     ensures { IfOk result (λ text. text.items ≡ form_text refused) }
 {
     let FormRefused::Line { line, wanted } = refused else {
-        return Vec::from_slice(alloc, b"refused: more than 65536 bytes\n");
+        let text = format!(in alloc; "refused: more than {MOST_BYTES} bytes\n")?;
+        return Ok(text.into_bytes());
     };
     let mut text = Vec::from_slice(alloc, b"refused: line ")?;
     push_number(alloc, &mut text, line as u64)?;
@@ -62,29 +64,16 @@ fn range_line(alloc: Global, name: Part, number: u8, limit: u8) -> Result<Vec<u8
     ensures { IfOk result (λ text. text.items
         ≡ codes "refused: " ++ part_text name ++ 32 ∷ decimal number ++ codes " is over " ++ decimal limit ++ 10 ∷ []) }
 {
-    let mut text = Vec::from_slice(alloc, b"refused: ")?;
-    text.extend_from_slice(match name {
-        Part::Q => b"q",
-        Part::M => b"m",
-        Part::S => b"s",
-        Part::Depth => b"depth",
-    })?;
-    text.push(b' ')?;
-    push_number(alloc, &mut text, number as u64)?;
-    text.extend_from_slice(b" is over ")?;
-    push_number(alloc, &mut text, limit as u64)?;
-    text.push(b'\n')?;
-    Ok(text)
+    Ok(format!(in alloc; "refused: {name} {number} is over {limit}\n")?.into_bytes())
 }
 
 fn choices_line(alloc: Global, count: u64) -> Result<Vec<u8>, AllocError>
     ensures { IfOk result (λ text. text.items
-        ≡ codes "refused: " ++ decimal count ++ codes " choices, more than 500000\n") }
+        ≡ codes "refused: " ++ decimal count ++ codes " choices, more than " ++ decimal MOST_CHOICES
+        ++ 10 ∷ []) }
 {
-    let mut text = Vec::from_slice(alloc, b"refused: ")?;
-    push_number(alloc, &mut text, count)?;
-    text.extend_from_slice(b" choices, more than 500000\n")?;
-    Ok(text)
+    let text = format!(in alloc; "refused: {count} choices, more than {MOST_CHOICES}\n")?;
+    Ok(text.into_bytes())
 }
 
 // The line for the first dependent choice: its sizes, and the coefficients of its rows.

@@ -1,11 +1,10 @@
 //! The words of the command line.
 ghost use Rattle.std.specs.Prelude.{◌≡◌, ◌≢◌, ℕ, ◌^◌, ◌<◌, ◌++◌, ◌∷◌, [], decimal, map, string_bytes, List, MatchOption, IsSome, IsTrue, ◌↔◌};
 ghost use Rattle.mt_cells.specs.declared.bounds.Bounds.{Bounds};
-ghost use Rattle.mt_cells.specs.declared.asks.Kind.{Kind};
 ghost use Rattle.mt_cells.specs.declared.asks.Ask.{Ask};
 ghost use Rattle.mint.specs.declared.words.Task.{Task};
 ghost use Rattle.mint.specs.declared.words.Command.{Command};
-ghost use Rattle.mint.specs.Words.{kind_word, bounds_word, IsPlain, IsSizes, IsAskFor, AreTwo, AreThree, IsTask, IsCommand};
+ghost use Rattle.mint.specs.Words.{bounds_word, IsPlain, IsSizes, IsAskFor, AreTwo, AreThree, IsTask, IsCommand};
 
 use mt_cells::{Ask, Bounds, Kind, Question};
 
@@ -131,20 +130,7 @@ fn read_asked(words: &[String]) -> Option<Ask>
         (IsAskFor (map string_bytes words.now)) }
 {
     let (word, words) = first_word(words)?;
-    read_ask(read_kind(word)?, words)
-}
-
-fn read_kind(word: &str) -> Option<Kind>
-    ensures { MatchOption result ((k : Kind) → word.now ≢ kind_word k)
-        (λ k. word.now ≡ kind_word k) }
-{
-    match word {
-        "net" => Some(Kind::Net),
-        "oa" => Some(Kind::Oa),
-        "ooa" => Some(Kind::Ooa),
-        "seq" => Some(Kind::Seq),
-        _ => None,
-    }
+    read_ask(Kind::of_word(word)?, words)
 }
 
 // The question of this kind with these sizes.

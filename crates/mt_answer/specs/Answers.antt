@@ -22,7 +22,7 @@ use Rattle.mt_derive.specs.Places.{IsAt}
 use Rattle.mt_derive.specs.Systems.{IsSystemOf, Has}
 use Rattle.mt_table.specs.Tables.{Contents, place_of, IsServed}
 use Rattle.mt_answer.specs.declared.texts.Text.{Text}
-use Rattle.mt_answer.specs.Texts.{value_text, outside_text, tree_text, matrix_text}
+use Rattle.mt_answer.specs.Texts.{value_text, outside_line_text, tree_text, matrix_text}
 use Rattle.mt_answer.specs.Sheets.{IsTableText, IsExportText}
 
 -- the greatest value over the imports, and the last import that changed it
@@ -77,7 +77,7 @@ pub record IsOutsideText (b : Bounds) (question : Question) (text : List ℕ) : 
   pub name : Part
   pub number : ℕ
   pub outside : IsOutsideFor b question name number
-  pub text_is : text ≡ outside_text name number
+  pub text_is : text ≡ outside_line_text name number
 
 abbrev pub IsAnswer : Contents → Question → Text → Type 0
 IsAnswer t question text = MatchBool text.outside (IsOutsideText t.bounds question text.bytes.items) (IsTextFor t question text.bytes.items)

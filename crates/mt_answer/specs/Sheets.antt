@@ -5,7 +5,9 @@ use Rattle.mt_linear.specs.declared.order.Order.{Order}
 use Rattle.mt_linear.specs.Field.{number_of}
 use Rattle.mt_cells.specs.declared.cells.Cell.{Cell}
 use Rattle.mt_cells.specs.declared.cells.Cell.TheVariants.{Ooa, Seq}
+use Rattle.mt_cells.specs.declared.asks.Kind.TheVariants as kind
 use Rattle.mt_cells.specs.Cells.{InBounds, number, cells_of}
+use Rattle.mt_cells.specs.Texts.{kind_text}
 use Rattle.mt_derive.specs.Trees.{IsValue}
 use Rattle.mt_derive.specs.Values.{IsSince}
 use Rattle.mt_derive.specs.Imports.{entries_of}
@@ -44,8 +46,8 @@ export_header = codes "kind" ∷ codes "q" ∷ codes "m" ∷ codes "s" ∷ codes
 
 -- a sequence's depth is shown as its number of columns
 abbrev pub cell_fields : Cell → List (List ℕ)
-cell_fields (Ooa o m s depth) = codes "ooa" ∷ decimal (number_of o) ∷ decimal m ∷ decimal s ∷ decimal depth ∷ []
-cell_fields (Seq o m s) = codes "seq" ∷ decimal (number_of o) ∷ decimal m ∷ decimal s ∷ decimal m ∷ []
+cell_fields (Ooa o m s depth) = kind_text kind.Ooa ∷ decimal (number_of o) ∷ decimal m ∷ decimal s ∷ decimal depth ∷ []
+cell_fields (Seq o m s) = kind_text kind.Seq ∷ decimal (number_of o) ∷ decimal m ∷ decimal s ∷ decimal m ∷ []
 
 -- the fields of a cell: its sizes, its greatest value and the last import that changed it
 pub record IsExportRecord (t : Contents) (c : Cell) (fields : List (List ℕ)) : Type 0 where

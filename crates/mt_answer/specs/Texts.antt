@@ -1,14 +1,9 @@
 -- The texts of answers. Each ends with a line feed.
 use Rattle.std.specs.Prelude.{ℕ, zero, suc, ◌+◌, ◌-◌, ◌==◌, cond, List, [], ◌∷◌, ◌++◌, length, get_or, codes, decimal}
-use Rattle.mt_linear.specs.Field.{number_of}
 use Rattle.mt_system.specs.declared.claims.Form.{Form}
 use Rattle.mt_system.specs.declared.claims.Form.TheVariants as form
 use Rattle.mt_system.specs.Rows.{Matrices}
 use Rattle.mt_import.specs.Canonical.{canonical_text}
-use Rattle.mt_cells.specs.declared.cells.Cell.{Cell}
-use Rattle.mt_cells.specs.declared.cells.Cell.TheVariants as cell
-use Rattle.mt_cells.specs.declared.rules.Rule.{Rule}
-use Rattle.mt_cells.specs.declared.rules.Rule.TheVariants.{Fewer, Shallower, Deeper, Longer, QuotientKeep, QuotientDrop, SeqFewer, SeqCut, SeqToNet, Product, Uuv}
 use Rattle.mt_derive.specs.declared.nodes.Made.{Made}
 use Rattle.mt_derive.specs.declared.nodes.Made.TheVariants as made
 use Rattle.mt_derive.specs.declared.nodes.Node.{Node}
@@ -17,13 +12,7 @@ use Rattle.mt_cells.specs.declared.asks.Kind.{Kind}
 use Rattle.mt_cells.specs.declared.asks.Kind.TheVariants.{Net, Oa, Ooa, Seq}
 use Rattle.mt_cells.specs.declared.asks.Ask.{Ask}
 use Rattle.mt_cells.specs.declared.asks.Part.{Part}
-use Rattle.mt_cells.specs.declared.asks.Part.TheVariants as part
-
-abbrev pub kind_text : Kind → List ℕ
-kind_text Net = codes "net"
-kind_text Oa = codes "oa"
-kind_text Ooa = codes "ooa"
-kind_text Seq = codes "seq"
+use Rattle.mt_cells.specs.Texts.{kind_text, outside_text, cell_text, rule_text}
 
 -- the depth is shown for kind ooa alone
 abbrev pub depth_text : Kind → ℕ → List ℕ
@@ -41,34 +30,11 @@ abbrev pub value_text : Ask → ℕ → ℕ → ℕ → List ℕ
 value_text a k since version =
     ask_text a ++ codes ": k " ++ decimal k ++ codes ", t " ++ decimal (a.m - k) ++ codes ", since " ++ decimal since ++ codes ", version " ++ decimal version ++ 10 ∷ []
 
-abbrev pub part_text : Part → List ℕ
-part_text part.Q = codes "q"
-part_text part.M = codes "m"
-part_text part.S = codes "s"
-part_text part.Depth = codes "depth"
-
-abbrev pub outside_text : Part → ℕ → List ℕ
-outside_text name number = codes "outside: " ++ part_text name ++ 32 ∷ decimal number ++ 10 ∷ []
+-- the line for a question outside the bounds
+abbrev pub outside_line_text : Part → ℕ → List ℕ
+outside_line_text name number = outside_text name number ++ 10 ∷ []
 
 -- ---- derivations
-
-abbrev pub cell_text : Cell → List ℕ
-cell_text (cell.Ooa o m s depth) =
-    codes "ooa " ++ decimal (number_of o) ++ 32 ∷ decimal m ++ 32 ∷ decimal s ++ 32 ∷ decimal depth
-cell_text (cell.Seq o m s) = codes "seq " ++ decimal (number_of o) ++ 32 ∷ decimal m ++ 32 ∷ decimal s
-
-abbrev pub rule_text : Rule → List ℕ
-rule_text Fewer = codes "fewer"
-rule_text Shallower = codes "shallower"
-rule_text Deeper = codes "deeper"
-rule_text Longer = codes "longer"
-rule_text QuotientKeep = codes "quotient_keep"
-rule_text QuotientDrop = codes "quotient_drop"
-rule_text SeqFewer = codes "seq_fewer"
-rule_text SeqCut = codes "seq_cut"
-rule_text SeqToNet = codes "seq_to_net"
-rule_text Product = codes "product"
-rule_text Uuv = codes "uuv"
 
 -- the axiom, the import or the rule
 abbrev pub made_text : Made → List ℕ

@@ -4,7 +4,7 @@ ghost use Rattle.csv.specs.Writing.{default_writer, row_text};
 ghost use Rattle.mt_answer.specs.Sheets.{cell_fields, IsExportText};
 
 use crate::sheets::Sheet;
-use mt_cells::Cell;
+use mt_cells::{Cell, Kind};
 use mt_table::Table;
 use std::alloc::{AllocError, Global};
 
@@ -28,9 +28,12 @@ fn push_cell(sheet: &mut Sheet, cell: Cell, k: u8, since: u32) -> Result<(), All
         ++ row_text default_writer (cell_fields cell ++ decimal k ∷ decimal since ∷ [])) }
 {
     let (kind, order, m, s, depth) = match cell {
-        Cell::Ooa { order, m, s, depth } => (b"ooa", order, m, s, depth),
-        Cell::Seq { order, m, s } => (b"seq", order, m, s, m),
+        Cell::Ooa { order, m, s, depth } => (Kind::Ooa, order, m, s, depth),
+        Cell::Seq { order, m, s } => (Kind::Seq, order, m, s, m),
     };
     let (q, m, s, depth) = (order.number() as u64, m as u64, s as u64, depth as u64);
-    sheet.push(&[kind], &[q, m, s, depth, k as u64, since as u64])
+    sheet.push(
+        &[kind.word().as_bytes()],
+        &[q, m, s, depth, k as u64, since as u64],
+    )
 }

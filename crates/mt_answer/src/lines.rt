@@ -1,8 +1,8 @@
 //! The lines of answers.
 ghost use Rattle.std.specs.Prelude.{◌≡◌, ◌∷◌, ◌++◌, codes, decimal, IfOk, OnOk};
-ghost use Rattle.mt_answer.specs.Texts.{kind_text, ask_text, value_text, part_text, outside_text};
+ghost use Rattle.mt_answer.specs.Texts.{ask_text, value_text, outside_line_text};
 
-use mt_cells::{Ask, Kind, Outside, Part};
+use mt_cells::{Ask, Kind, Outside};
 use std::alloc::{AllocError, Global};
 
 /// The line for a value.
@@ -26,25 +26,16 @@ pub(crate) fn value_line(
 
 /// The line `outside: NAME NUMBER` for a question outside the bounds.
 pub fn outside_line(alloc: Global, outside: Outside) -> Result<Vec<u8>, AllocError>
-    ensures { IfOk result (λ text. text.items ≡ outside_text outside.name outside.number) }
+    ensures { IfOk result (λ text. text.items ≡ outside_line_text outside.name outside.number) }
 {
-    let mut text = Vec::from_slice(alloc, b"outside: ")?;
-    text.extend_from_slice(match outside.name {
-        Part::Q => b"q",
-        Part::M => b"m",
-        Part::S => b"s",
-        Part::Depth => b"depth",
-    })?;
-    push_labelled(alloc, &mut text, b" ", outside.number)?;
-    text.push(b'\n')?;
-    Ok(text)
+    Ok(format!(in alloc; "{outside}\n")?.into_bytes())
 }
 
 // What is asked for: the kind and the sizes.
 fn ask_line(alloc: Global, ask: &Ask) -> Result<Vec<u8>, AllocError>
     ensures { IfOk result (λ text. text.items ≡ ask_text ask.now) }
 {
-    let mut text = Vec::from_slice(alloc, kind_word(ask.kind))?;
+    let mut text = Vec::from_slice(alloc, ask.kind.word().as_bytes())?;
     push_labelled(alloc, &mut text, b" ", ask.q)?;
     push_labelled(alloc, &mut text, b" ", ask.m)?;
     push_labelled(alloc, &mut text, b" ", ask.s)?;
@@ -53,17 +44,6 @@ fn ask_line(alloc: Global, ask: &Ask) -> Result<Vec<u8>, AllocError>
         Kind::Net | Kind::Oa | Kind::Seq => {}
     }
     Ok(text)
-}
-
-fn kind_word(kind: Kind) -> &'static [u8]
-    ensures { result.now ≡ kind_text kind }
-{
-    match kind {
-        Kind::Net => b"net",
-        Kind::Oa => b"oa",
-        Kind::Ooa => b"ooa",
-        Kind::Seq => b"seq",
-    }
 }
 
 // Adds a label, and a number in decimal.

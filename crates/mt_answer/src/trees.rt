@@ -2,10 +2,10 @@
 ghost use Rattle.std.specs.Prelude.{◌≡◌, ◌<◌, ◌++◌, length, IfOk, OnOk};
 ghost use Rattle.mt_cells.specs.Cells.{InBounds};
 ghost use Rattle.mt_answer.specs.Answers.{IsTreeText};
-ghost use Rattle.mt_answer.specs.Texts.{cell_text, rule_text, made_text, place_in, parents_text, rule_part, conclusion_part, node_text};
+ghost use Rattle.mt_answer.specs.Texts.{made_text, place_in, parents_text, rule_part, conclusion_part, node_text};
 
 use crate::lines::push_labelled;
-use mt_cells::{Cell, Rule};
+use mt_cells::Cell;
 use mt_derive::{Made, Node, reachable};
 use mt_table::Table;
 use std::alloc::{AllocError, Global};
@@ -45,10 +45,9 @@ fn push_node(
 fn push_conclusion(alloc: Global, text: &mut Vec<u8>, node: Node) -> Result<(), AllocError>
     ensures { OnOk result (text.new.items ≡ text.old.items ++ conclusion_part node) }
 {
-    push_cell(alloc, text, node.cell)?;
-    push_labelled(alloc, text, b" k ", node.k as u64)?;
-    text.push(b'\n')?;
-    Ok(())
+    let (cell, k) = (node.cell, node.k);
+    let conclusion = format!(in alloc; "{cell} k {k}\n")?;
+    text.extend_from_slice(conclusion.as_bytes())
 }
 
 // Adds what the node is made of, with blanks round it.
@@ -75,25 +74,10 @@ fn push_made(alloc: Global, text: &mut Vec<u8>, made: Made) -> Result<(), AllocE
         Made::Parity => text.extend_from_slice(b"parity"),
         Made::Niederreiter => text.extend_from_slice(b"niederreiter"),
         Made::Import(n) => push_labelled(alloc, text, b"import/", n as u64),
-        Made::One(rule, _) | Made::Two(rule, _, _) => text.extend_from_slice(rule_name(rule)),
-    }
-}
-
-fn rule_name(rule: Rule) -> &'static [u8]
-    ensures { result.now ≡ rule_text rule }
-{
-    match rule {
-        Rule::Fewer => b"fewer",
-        Rule::Shallower => b"shallower",
-        Rule::Deeper => b"deeper",
-        Rule::Longer => b"longer",
-        Rule::QuotientKeep => b"quotient_keep",
-        Rule::QuotientDrop => b"quotient_drop",
-        Rule::SeqFewer => b"seq_fewer",
-        Rule::SeqCut => b"seq_cut",
-        Rule::SeqToNet => b"seq_to_net",
-        Rule::Product => b"product",
-        Rule::Uuv => b"uuv",
+        Made::One(rule, _) | Made::Two(rule, _, _) => {
+            let word = format!(in alloc; "{rule}")?;
+            text.extend_from_slice(word.as_bytes())
+        }
     }
 }
 
@@ -131,23 +115,4 @@ fn place_of(found: &[u32], number: u32) -> usize
         }
     }
     found.len()
-}
-
-// Adds the cell.
-fn push_cell(alloc: Global, text: &mut Vec<u8>, cell: Cell) -> Result<(), AllocError>
-    ensures { OnOk result (text.new.items ≡ text.old.items ++ cell_text cell) }
-{
-    match cell {
-        Cell::Ooa { order, m, s, depth } => {
-            push_labelled(alloc, text, b"ooa ", order.number() as u64)?;
-            push_labelled(alloc, text, b" ", m as u64)?;
-            push_labelled(alloc, text, b" ", s as u64)?;
-            push_labelled(alloc, text, b" ", depth as u64)
-        }
-        Cell::Seq { order, m, s } => {
-            push_labelled(alloc, text, b"seq ", order.number() as u64)?;
-            push_labelled(alloc, text, b" ", m as u64)?;
-            push_labelled(alloc, text, b" ", s as u64)
-        }
-    }
 }

@@ -3,6 +3,7 @@ use Rattle.std.proofs.Common.{◌≡◌, ℕ, suc, ◌+◌, ◌-◌, ◌*◌, �
 use Rattle.std.proofs.Math.ListN.{set}
 use Rattle.std.proofs.lemmas.Bool.{cases_eq}
 use Rattle.std.proofs.lemmas.List.Sums.{sum_by-set, sum_by-cons}
+use Rattle.mt_cells.specs.declared.bounds.TheConstants.{MOST_COLUMNS}
 use Rattle.mt_cells.specs.declared.cells.Cell.{Cell}
 use Rattle.mt_cells.specs.declared.instances.Instance.{Instance}
 use Rattle.mt_cells.specs.Cells.{InBounds, number, cells_of}
@@ -166,11 +167,11 @@ done_at_end w all idle i k = go (all i k)
 
 -- ---- the measure
 
-pub sum_high : (values : List ℕ) → ((n : ℕ) → get_or values n 0 ≤ 16) → sum_of values ≤ 16 * length values
+pub sum_high : (values : List ℕ) → ((n : ℕ) → get_or values n 0 ≤ MOST_COLUMNS) → sum_of values ≤ MOST_COLUMNS * length values
 sum_high [] h = omega arith
 sum_high (v ∷ values) h =
-    let a : sum_of values ≤ 16 * length values = sum_high values (λ n. h (suc n)) in
-    let q : v ≤ 16 = h 0 in
+    let a : sum_of values ≤ MOST_COLUMNS * length values = sum_high values (λ n. h (suc n)) in
+    let q : v ≤ MOST_COLUMNS = h 0 in
     let e : sum_of (v ∷ values) ≡ v + sum_of values = sum_by-cons (λ x. x) v values in
     omega (arith, e)
 
@@ -181,7 +182,7 @@ taken_waiting flags n h e =
     omega arith
 
 abbrev pub measure : Work → ℕ
-measure w = (16 * cells_of w.bounds - sum_of w.values.items) + waiting w.flags.items
+measure w = (MOST_COLUMNS * cells_of w.bounds - sum_of w.values.items) + waiting w.flags.items
 
 pub measure_falls : (v u w : Work) (n : ℕ) → IsTaken v u n → Grows u w → measure w < measure v
 measure_falls v u w n t g =
@@ -189,7 +190,7 @@ measure_falls v u w n t g =
     let b : sum_of u.values.items ≡ sum_of v.values.items = ap sum_of t.values in
     let d : waiting u.flags.items ≡ waiting (set v.flags.items n false) = ap waiting t.flags in
     let q : waiting (set v.flags.items n false) + 1 ≡ waiting v.flags.items = taken_waiting v.flags.items n (rw v.shaped.1 t.below) t.was in
-    let r : sum_of w.values.items ≤ 16 * length w.values.items = sum_high w.values.items w.shaped.3 in
+    let r : sum_of w.values.items ≤ MOST_COLUMNS * length w.values.items = sum_high w.values.items w.shaped.3 in
     let s : length w.values.items ≡ cells_of w.bounds = w.shaped.0 in
     let e : cells_of w.bounds ≡ cells_of v.bounds = ap cells_of (g.bounds ∙ t.bounds) in
     omega arith

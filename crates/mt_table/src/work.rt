@@ -1,5 +1,6 @@
 //! Values of cells with their derivations, and the cells whose value rose.
 ghost use Rattle.std.specs.Prelude.{◌≡◌, ℕ, ◌+◌, List};
+ghost use Rattle.mt_cells.specs.declared.bounds.TheConstants.{MOST_COLUMNS};
 ghost use Rattle.mt_cells.specs.Cells.{cells_of};
 ghost use Rattle.mt_table.specs.Shapes.{IsShaped, NoneBefore, ArePlaced, ArePlaced-prop, HasRoom, AreTops, sum_of};
 
@@ -98,7 +99,7 @@ impl Work {
     pub(crate) fn value(&self, cell: Cell) -> u8
         requires { InBounds self.now.bounds cell }
         ensures value { result ≡ value_in self.now cell }
-        ensures high { result ≤ 16 }
+        ensures high { result ≤ MOST_COLUMNS }
         ensures within { result ≤ columns_of cell }
     {
         self.values[cell.number(self.bounds) as usize]
@@ -156,7 +157,7 @@ impl Work {
         requires concluded { k ≡ conclusion_of instance.now (value_in self.old instance.now.first)
             (value_in self.old (second_of instance.now)) }
         requires higher { value_in self.old instance.now.target < k }
-        requires high { k ≤ 16 }
+        requires high { k ≤ MOST_COLUMNS }
         ensures { IsRaised self.old self.new instance.now k }
     {
         let n = instance.target.number(self.bounds) as usize;
