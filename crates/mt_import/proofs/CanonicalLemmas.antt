@@ -1,10 +1,10 @@
 -- The canonical text of a claim is an import text.
-use Rattle.std.proofs.Common.{◌≡◌, ◌≢◌, ℕ, zero, suc, ◌+◌, ◌-◌, ◌*◌, ◌<◌, ◌≤◌, eqb, ltb, ltb-true, false, not, List, [], ◌∷◌, ◌++◌, length, map, flat_map, get_or, take, drop, min, All, Contains, decimal, refl, sym, ap, ap₂, ◌∙◌, subst, arith, append_assoc, length-append, append-nil, suc-mul}
+use Rattle.std.proofs.Common.{◌≡◌, ◌≢◌, ℕ, zero, suc, ◌+◌, ◌-◌, ◌*◌, ◌<◌, ◌≤◌, eqb, ltb, ltb-true, false, not, List, [], ◌∷◌, ◌++◌, length, map, flat_map, get_or, take, drop, min, codes, All, Contains, decimal, refl, sym, ap, ap₂, ◌∙◌, subst, arith, append_assoc, length-append, append-nil, suc-mul}
 use Rattle.std.specs.List.{join_with_byte}
 use Rattle.std.proofs.lemmas.Bool.{ne_eqb, cond-true, cond-false}
 use Rattle.std.proofs.lemmas.Fmt.{decimal_nonempty}
 use Rattle.std.proofs.lemmas.List.{take_at, drop_at, take-append-drop, length-map, length-take-le, length-drop, get_or_default, nil_from_length}
-use Rattle.std.proofs.lemmas.List.Elements.{All-nil, All-cons, All-head, All-tail, All-append, All-map, All-take, All-drop, All-weaker, All-from_get_or, All-from_recursion}
+use Rattle.std.proofs.lemmas.List.Elements.{All-nil, All-cons, All-head, All-tail, All-append, All-map, All-take, All-drop, All-weaker, All-get_or, All-from_get_or, All-from_recursion}
 use Rattle.std.proofs.lemmas.Str.Parse.{digit_at}
 use Rattle.mt_linear.specs.Field.{number_of}
 use Rattle.mt_linear.proofs.FieldLaws.{all_below-at}
@@ -14,15 +14,17 @@ use Rattle.mt_system.specs.declared.claims.Form.{Form}
 use Rattle.mt_system.specs.declared.claims.Form.TheVariants.{Ooa, Net, Seq}
 use Rattle.mt_system.specs.Rows.{IsSystem}
 use Rattle.mt_system.specs.Claims.{IsName, name_characters}
+use Rattle.mt_system.specs.Notes.{IsNote}
 use Rattle.mt_import.specs.declared.headers.Header.{Header}
-use Rattle.mt_import.specs.Lines.{is_blank, without_return, lines_of, words_of, without_blanks}
+use Rattle.mt_import.specs.Lines.{is_blank, without_return, lines_of, words_of, from_word, to_word, trimmed, without_blanks}
+use Rattle.mt_import.specs.Sources.{StartsSource, NoSource, IsSource}
 use Rattle.mt_system.specs.Forms.{form_word}
 use Rattle.mt_import.specs.Headers.{numbers_by, header_words, IsHeader}
 use Rattle.mt_import.specs.Texts.{IsRow, digits_of, IsBlankLine, IsImport}
-use Rattle.mt_import.specs.Canonical.{header_of, rows_text, canonical_text}
-use Rattle.mt_import.proofs.LineLemmas.{pieces_of-line, words_of-one, words_of-last}
+use Rattle.mt_import.specs.Canonical.{header_of, source_text, rows_text, canonical_text}
+use Rattle.mt_import.proofs.LineLemmas.{pieces_of-line, words_of-one, words_of-last, to_word-same}
 use Rattle.mt_import.proofs.NumberLemmas.{AllDigits-decimal}
-use Rattle.mt_import.proofs.HeaderLemmas.{numbers_are}
+use Rattle.mt_import.proofs.HeaderLemmas.{numbers_are, number_of-le}
 
 -- the rows behind the first
 pub record IsNextRow (m left : ℕ) (all row rest : List ℕ) (n : ℕ) : Type 0 where
@@ -168,6 +170,59 @@ digits_of-row_lines m (suc n) ds size =
     ap₂ (λ (xs ys : List ℕ). xs ++ ys) (digits_of-row_line (take m ds)) (digits_of-row_lines m n (drop m ds) (omega (arith, length-drop m ds, suc-mul n m)))
     ∙ take-append-drop m ds
 
+-- a row of digits does not begin as a source line
+no_source_row : (ds : List ℕ) → All (λ d. d < 10) ds → StartsSource (row_line ds) → ⊥
+no_source_row [] small starts = let e : [] ≡ codes "source" ++ starts.0 = starts.1 in absurd (cc)
+no_source_row (d ∷ ds) small starts =
+    let first : d < 10 = All-head (λ d. d < 10) d ds small in
+    let line : from_word (row_line (d ∷ ds)) ≡ row_line (d ∷ ds) = cond-false (is_blank (48 + d)) _ _ (not_blank (48 + d) (omega arith)) in
+    let whole : (48 + d) ∷ row_line ds ≡ codes "source" ++ starts.0 = sym line ∙ starts.1 in
+    let letter : 48 + d ≡ 115 = cc in
+    absurd (omega arith)
+
+-- so no rows do
+no_source_rows : (m n : ℕ) (ds : List ℕ) → All (λ d. d < 10) ds → NoSource (row_lines m n ds)
+no_source_rows m zero ds small = tt
+no_source_rows m (suc n) ds small = no_source_row (take m ds) (All-take (λ d. d < 10) m ds small)
+
+-- the source line of this note, where there is a note
+abbrev source_lines : List ℕ → List (List ℕ)
+source_lines [] = []
+source_lines (b ∷ bs) = (codes "source" ++ 32 ∷ b ∷ bs) ∷ []
+
+-- the lines of a text that begins with it
+lines_of-source_text : (note rest : List ℕ) → IsNote note → lines_of (source_text note ++ rest) ≡ source_lines note ++ lines_of rest
+lines_of-source_text [] rest is = refl
+lines_of-source_text (b ∷ bs) rest is =
+    let P : ℕ → Type 0 = λ b. 13 < b in
+    let line = codes "source" ++ 32 ∷ b ∷ bs in
+    let visible : All P (b ∷ bs) = All-weaker (λ b. (32 ≤ b) × (b ≤ 126)) P (λ b h. (let from : 32 ≤ b = h.0 in let over : 13 < b = omega arith in over)) (b ∷ bs) is.characters in
+    let word : All P (codes "source") = All-from_recursion P (codes "source") (omega arith, (omega arith, (omega arith, (omega arith, (omega arith, (omega arith, tt)))))) in
+    ap lines_of (append_assoc line (10 ∷ []) rest) ∙ lines_of-line line rest (All-append P (codes "source") (32 ∷ b ∷ bs) word (All-cons P 32 (b ∷ bs) (omega arith) visible))
+
+-- a note has no blanks at its ends
+trimmed-note : (note : List ℕ) → 0 < length note → IsNote note → trimmed note ≡ note
+trimmed-note [] some is = absurd (omega arith)
+trimmed-note (b ∷ bs) some is =
+    let P : ℕ → Type 0 = λ b. (32 ≤ b) × (b ≤ 126) in
+    let visible : (b : ℕ) → 32 ≤ b → b ≢ 32 → is_blank b ≡ false = λ b from ne. rw (ne_eqb b 32 ne, ne_eqb b 9 (λ e. omega arith)) refl in
+    let last = get_or (b ∷ bs) (length (b ∷ bs) - 1) 0 in
+    let inside : P last = All-get_or P (b ∷ bs) (length (b ∷ bs) - 1) 0 (omega arith) is.characters in
+    ap to_word (cond-false (is_blank b) _ _ (visible b (All-head P b bs is.characters).0 is.first))
+    ∙ to_word-same (b ∷ bs) some (visible last inside.0 is.last)
+
+-- the source line of a note, and the rows behind it, are read as this note
+is_source : (note : List ℕ) (behind : List (List ℕ)) → IsNote note → NoSource behind → IsSource (source_lines note) note behind
+is_source [] behind is none = (refl, none)
+is_source (b ∷ bs) behind is none = record {
+  rest = 32 ∷ b ∷ bs;
+  line_is = refl;
+  blank = refl;
+  note_is = sym (trimmed-note (b ∷ bs) (omega arith) is);
+  some = omega arith;
+  form = is;
+}
+
 -- the words of forms
 IsWord-form : (f : Form) → IsWord (form_word f)
 IsWord-form Ooa = record { some = omega arith; visible = All-from_recursion (λ b. 32 < b) (form_word Ooa) (omega arith, (omega arith, (omega arith, tt))) }
@@ -211,6 +266,7 @@ join_with_byte-header word (n ∷ ns) name =
 -- what is known of a claim beside what it keeps itself
 pub record IsWhole (c : Claim) : Type 0 where
   pub name : IsName c.name
+  pub note : IsNote c.note
   pub system : IsSystem c.system.order c.system.columns c.system.coordinates c.system.depth c.system.digits
 
 -- the header of a claim's text is one that the reader takes
@@ -230,8 +286,8 @@ IsHeader-claim c is = record {
   name = is.name;
 }
 
--- the canonical text is an import text with this header and these digits
-pub canonical_is_import : (c : Claim) (text : List ℕ) → IsWhole c → text ≡ canonical_text (statement_of c) → length text ≤ 65536 → IsImport text (header_of (statement_of c)) c.system.digits
+-- the canonical text is an import text with this header, this note and these digits
+pub canonical_is_import : (c : Claim) (text : List ℕ) → IsWhole c → text ≡ canonical_text (statement_of c) → length text ≤ 65536 → IsImport text (header_of (statement_of c)) c.note c.system.digits
 canonical_is_import c text is text_is few =
     let h = header_of (statement_of c) in
     let header = IsHeader-claim c is in
@@ -240,17 +296,24 @@ canonical_is_import c text is text_is few =
     let m = c.system.columns in
     let n = c.system.coordinates * c.system.depth in
     let ds = c.system.digits in
-    let small : All (λ d. d < number_of c.system.order) ds = All-from_get_or (λ d. d < number_of c.system.order) ds 0 (λ i l. is.system.elements i) in
+    let rows = row_lines m n ds in
+    let q = number_of c.system.order in
+    let small : All (λ d. d < q) ds = All-from_get_or (λ d. d < q) ds 0 (λ i l. is.system.elements i) in
+    let below_ten : All (λ d. d < 10) ds = All-weaker (λ d. d < q) (λ d. d < 10) (λ d l. omega (arith, number_of-le c.system.order)) ds small in
+    let all : rows ≡ rows ++ [] = sym (append-nil rows) in
     record {
-      rows = row_lines m n ds;
+      source = source_lines c.note;
+      rows = rows;
       blanks = [];
       begins = record {
         few = few;
         first = line;
-        lines = ap lines_of text_is ∙ lines_of-line line (rows_text m n ds) (All-join (header_words h) words)
-            ∙ ap (λ (rows : List (List ℕ)). line ∷ rows) (lines_of-rows_text m n ds ∙ sym (append-nil (row_lines m n ds)));
+        lines = ap lines_of text_is ∙ lines_of-line line (source_text c.note ++ rows_text m n ds) (All-join (header_words h) words)
+            ∙ ap (λ (lines : List (List ℕ)). line ∷ lines) (lines_of-source_text c.note (rows_text m n ds) is.note
+            ∙ ap (λ (lines : List (List ℕ)). source_lines c.note ++ lines) (lines_of-rows_text m n ds ∙ all));
         header = record { header = header; words = words_of-join (header_words h) words };
-        each = All-row_lines (number_of c.system.order) m n ds is.system.size small;
+        source_is = is_source c.note (rows ++ []) is.note (subst NoSource all (no_source_rows m n ds below_ten));
+        each = All-row_lines q m n ds is.system.size small;
       };
       number = length-row_lines m n ds;
       digits_are = sym (digits_of-row_lines m n ds is.system.size);

@@ -3,5 +3,6 @@ mod LineLemmas
 mod NumberLemmas
 pub mod HeaderLemmas
 mod RowLemmas
+mod SourceLemmas
 mod ReadingLemmas
 mod LawLemmas

@@ -1,9 +1,9 @@
 -- The first line of a text, and the first word of a line.
-use Rattle.std.proofs.Common.{◌≡◌, ◌≢◌, ℕ, zero, suc, append-nil, ◌+◌, ◌<◌, cond, eqb, true, false, List, [], ◌∷◌, ◌++◌, length, map, get_or, take, drop, All, refl, sym, ap, ◌∙◌, arith}
+use Rattle.std.proofs.Common.{◌≡◌, ◌≢◌, ℕ, zero, suc, append-nil, ◌+◌, ◌-◌, ◌<◌, cond, eqb, true, false, List, [], ◌∷◌, ◌++◌, length, map, get_or, take, drop, All, refl, sym, ap, ◌∙◌, arith}
 use Rattle.std.proofs.lemmas.Bool.{both_ways, ne_eqb, cond-true, cond-false, not_from_true, not_from_false}
-use Rattle.std.proofs.lemmas.List.{take-append-drop, drop_more}
+use Rattle.std.proofs.lemmas.List.{take-append-drop, drop_more, length-drop, nil_from_length}
 use Rattle.std.proofs.lemmas.List.Elements.{All-head, All-tail}
-use Rattle.mt_import.specs.Lines.{is_blank, onto_first, pieces_of, without_return, lines_of, goes_on, words_of}
+use Rattle.mt_import.specs.Lines.{is_blank, onto_first, pieces_of, without_return, lines_of, goes_on, words_of, from_word, onto_word, to_word}
 
 -- a list, cut at a place within it
 cut_at : (xs : List ℕ) (i : ℕ) → i < length xs → xs ≡ take i xs ++ get_or xs i 0 ∷ drop (i + 1) xs
@@ -75,3 +75,39 @@ words_of-word (b ∷ bs) (suc i) some first l blank word =
 pub words_of-last : (line : List ℕ) → 0 < length line → All (λ b. is_blank b ≡ false) line → words_of line ≡ line ∷ []
 words_of-last [] some word = absurd (omega arith)
 words_of-last (b ∷ bs) some word = ap (λ (ys : List ℕ). words_of (b ∷ ys)) (sym (append-nil bs)) ∙ words_of-one b bs [] word refl
+
+-- a line that has blanks alone has no word
+pub from_word-none : (line : List ℕ) → All (λ b. is_blank b ≡ true) line → from_word line ≡ []
+from_word-none [] h = refl
+from_word-none (b ∷ bs) h =
+    cond-true (is_blank b) _ _ (All-head (λ b. is_blank b ≡ true) b bs h) ∙ from_word-none bs (All-tail (λ b. is_blank b ≡ true) b bs h)
+
+from_word-blanks : (blanks rest : List ℕ) → All (λ b. is_blank b ≡ true) blanks → from_word (blanks ++ rest) ≡ from_word rest
+from_word-blanks [] rest h = refl
+from_word-blanks (b ∷ bs) rest h =
+    cond-true (is_blank b) _ _ (All-head (λ b. is_blank b ≡ true) b bs h) ∙ from_word-blanks bs rest (All-tail (λ b. is_blank b ≡ true) b bs h)
+
+-- the first byte that is no blank, behind blanks
+pub from_word-start : (line : List ℕ) (i : ℕ) → i < length line → is_blank (get_or line i 0) ≡ false → All (λ b. is_blank b ≡ true) (take i line) → from_word line ≡ drop i line
+from_word-start line i l mark h =
+    ap from_word (sym (take-append-drop i line)) ∙ from_word-blanks (take i line) (drop i line) h
+    ∙ rw (drop_more line i 0 l) (cond-false (is_blank (get_or line i 0)) _ _ mark)
+
+-- a blank at the end is left off
+pub to_word-blank : (line : List ℕ) (b : ℕ) → is_blank b ≡ true → to_word (line ++ b ∷ []) ≡ to_word line
+to_word-blank [] b h = cond-true (is_blank b) _ _ h
+to_word-blank (x ∷ xs) b h = ap (onto_word x) (to_word-blank xs b h)
+
+-- any other byte is not, nor what stands before it
+pub to_word-mark : (line : List ℕ) (b : ℕ) → is_blank b ≡ false → to_word (line ++ b ∷ []) ≡ line ++ b ∷ []
+to_word-mark [] b h = cond-false (is_blank b) _ _ h
+to_word-mark (x ∷ []) b h = ap (onto_word x) (to_word-mark [] b h)
+to_word-mark (x ∷ y ∷ xs) b h = ap (onto_word x) (to_word-mark (y ∷ xs) b h)
+
+-- a line whose last byte is no blank is whole
+pub to_word-same : (line : List ℕ) → 0 < length line → is_blank (get_or line (length line - 1) 0) ≡ false → to_word line ≡ line
+to_word-same line some mark =
+    let i = length line - 1 in
+    let none : drop (i + 1) line ≡ [] = nil_from_length (drop (i + 1) line) (omega (arith, length-drop (i + 1) line)) in
+    let cut : line ≡ take i line ++ get_or line i 0 ∷ [] = cut_at line i (omega arith) ∙ ap (λ (ys : List ℕ). take i line ++ get_or line i 0 ∷ ys) none in
+    ap to_word cut ∙ to_word-mark (take i line) (get_or line i 0) mark ∙ sym cut

@@ -30,8 +30,5 @@ decimal-plain word plain digits =
     let small : digits_value 10 word < 1000 = digits_value_short own word 3 digits plain.few in
     (small, sym (decimal-digits_value own word digits plain.some plain.zero (omega arith)))
 
-pub two_digits : (word : List ℕ) → AllDigits 10 word → length word ≤ 2 → digits_value 10 word < 100
-two_digits word digits few = digits_value_short own word 2 digits few
-
 pub digit_value-digit : (c : ℕ) → 48 ≤ c → c ≤ 57 → digit_value c ≡ c - 48
 digit_value-digit c from to = cond-false (ltb c 48) _ _ (le-ltb c 48 from) ∙ cond-true (ltb c 58) _ _ (lt-ltb c 58 (omega arith))

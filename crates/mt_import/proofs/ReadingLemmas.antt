@@ -1,20 +1,16 @@
 -- What was read so far of the lines behind the header.
 use Rattle.std.proofs.Common.{◌≡◌, ℕ, ◌+◌, ◌-◌, ◌*◌, suc-mul, zero-mul, ◌<◌, ◌≤◌, List, [], ◌∷◌, ◌++◌, length, get_or, take, drop, min, length-take, length-drop, flat_map, All, refl, sym, ap, ◌∙◌, subst, arith}
-use Rattle.std.specs.Prelude.{Result, Ok, Err, MatchResult}
 use Rattle.std.proofs.lemmas.List.{append_assoc, drop_more, take_more, get_or-take, take_at, length-append, length-map, length_push}
 use Rattle.std.proofs.lemmas.List.Elements.{All-nil, All-push, All-head, All-tail, All-append, All-map, All-weaker}
 use Rattle.mt_import.specs.declared.headers.Header.{Header}
 use Rattle.mt_import.specs.declared.refusals.FormRefused.{FormRefused}
 use Rattle.mt_import.specs.declared.refusals.FormRefused.TheVariants.{Line}
-use Rattle.mt_import.specs.declared.refusals.Wanted.TheVariants.{Row, Blank}
+use Rattle.mt_import.specs.declared.refusals.Wanted.TheVariants.{Source}
 use Rattle.mt_import.specs.declared.import_text.TheConstants.{MOST_BYTES}
 use Rattle.mt_import.specs.Lines.{lines_of, without_blanks}
 use Rattle.mt_import.specs.Headers.{IsHeader}
-use Rattle.mt_import.specs.Texts.{IsRow, digits_of, IsBlankLine, HasNoRow, HasHeader, Begins, IsImport, IsRefusal}
-use Rattle.mt_import.specs.Reading.{StartsWith, HasRows, row_lines, TakesRows, LacksRow, LacksBlank}
-
-pub takes_none : (h : Header) (text : List ℕ) → TakesRows h 0 text text []
-takes_none h text = record { number = refl; lines = refl; each = All-nil (IsRow h.q h.m) }
+use Rattle.mt_import.specs.Texts.{IsRow, digits_of, IsBlankLine, HasBadSource, HasHeader, IsImport, IsRefusal}
+use Rattle.mt_import.specs.Reading.{StartsWith, HasRows, row_lines, TakesRows}
 
 -- the list before goes on with one more line
 lines_more : (text rest behind line : List ℕ) (lines : List (List ℕ)) → lines_of text ≡ lines ++ lines_of rest → lines_of rest ≡ line ∷ lines_of behind → lines_of text ≡ (lines ++ line ∷ []) ++ lines_of behind
@@ -28,100 +24,21 @@ takes_more h n text rest behind row rows takes next is = record {
   each = All-push (IsRow h.q h.m) rows row takes.each is;
 }
 
-pub lacks_row : (h : Header) (n total : ℕ) (text rest : List ℕ) (rows : List (List ℕ)) (refused : FormRefused) → TakesRows h n text rest rows → n < total → HasNoRow h.q h.m (lines_of rest) → refused ≡ Line (n + 2) Row
-    → LacksRow h total text refused
-lacks_row h n total text rest rows refused takes fewer none e = record {
-  rows = rows;
-  others = lines_of rest;
-  lines = takes.lines;
-  each = takes.each;
-  fewer = omega (arith, takes.number);
-  none = none;
-  refused_is = e ∙ ap (λ k. Line (k + 2) Row) (sym takes.number);
-}
-
 -- blank lines, with the rest behind them
 pub record TakesBlanks (text rest : List ℕ) (blanks : List (List ℕ)) : Type 0 where
   pub lines : lines_of text ≡ blanks ++ lines_of rest
   pub each : All IsBlankLine blanks
   pub few : length blanks + length rest ≤ length text
 
-pub blanks_none : (text : List ℕ) → TakesBlanks text text []
-blanks_none text = record { lines = refl; each = All-nil IsBlankLine; few = omega arith }
-
-pub blanks_more : (text rest behind line : List ℕ) (blanks : List (List ℕ)) → TakesBlanks text rest blanks → lines_of rest ≡ line ∷ lines_of behind → length behind < length rest → IsBlankLine line
-    → TakesBlanks text behind (blanks ++ line ∷ [])
-blanks_more text rest behind line blanks takes next shorter is = record {
-  lines = lines_more text rest behind line blanks takes.lines next;
-  each = All-push IsBlankLine blanks line takes.each is;
-  few = omega (arith, length_push blanks line, takes.few);
-}
-
-pub lacks_blank : (n : ℕ) (text rest behind line : List ℕ) (blanks : List (List ℕ)) (k : ℕ) → TakesBlanks text rest blanks → lines_of rest ≡ line ∷ lines_of behind → ¬ IsBlankLine line → k ≡ n + length blanks
-    → LacksBlank n text (Line k Blank)
-lacks_blank n text rest behind line blanks k takes next marked e = record {
-  blanks = blanks;
-  last = line;
-  others = lines_of behind;
-  lines = takes.lines ∙ ap (λ (ls : List (List ℕ)). blanks ++ ls) next;
-  blank = takes.each;
-  none = marked;
-  refused_is = ap (λ m. Line m Blank) e;
-}
-
--- the whole text, from the lines behind the header
-begins : (text rest : List ℕ) (h : Header) (rows others : List (List ℕ)) → length text ≤ MOST_BYTES → StartsWith text h rest → lines_of rest ≡ rows ++ others → All (IsRow h.q h.m) rows → Begins text h rows others
-begins text rest h rows others few starts lines each = record {
-  few = few;
-  first = starts.line;
-  lines = starts.lines ∙ ap (λ (ls : List (List ℕ)). starts.line ∷ ls) lines;
-  header = starts.header;
-  each = each;
-}
-
-pub refused_row : (text rest : List ℕ) (h : Header) (refused : FormRefused) → length text ≤ MOST_BYTES → StartsWith text h rest → LacksRow h (h.s * h.depth) rest refused → IsRefusal text refused
-refused_row text rest h refused few starts lacks =
-    subst (IsRefusal text) (sym lacks.refused_is) (record {
+pub refused_source : (text rest : List ℕ) (h : Header) (refused : FormRefused) → length text ≤ MOST_BYTES → StartsWith text h rest → refused ≡ Line 2 Source → HasBadSource (lines_of rest) → IsRefusal text refused
+refused_source text rest h refused few starts e bad =
+    subst (IsRefusal text) (sym e) (record {
+      few = few;
       header = h;
-      rows = lacks.rows;
-      others = lacks.others;
-      begins = begins text rest h lacks.rows lacks.others few starts lacks.lines lacks.each;
-      fewer = lacks.fewer;
+      starts = record { line = starts.line; others = lines_of rest; lines = starts.lines; header = starts.header };
       line = refl;
-      refused = lacks.none;
+      refused = bad;
     })
-
-pub refused_end : (text rest behind : List ℕ) (h : Header) (rows : List (List ℕ)) (refused : FormRefused) → length text ≤ MOST_BYTES → StartsWith text h rest → TakesRows h (h.s * h.depth) rest behind rows
-    → LacksBlank (h.s * h.depth + 2) behind refused → IsRefusal text refused
-refused_end text rest behind h rows refused few starts takes lacks =
-    subst (IsRefusal text) (sym lacks.refused_is) (record {
-      header = h;
-      rows = rows;
-      blanks = lacks.blanks;
-      last = lacks.last;
-      others = lacks.others;
-      begins = begins text rest h rows (lacks.blanks ++ lacks.last ∷ lacks.others) few starts (takes.lines ∙ ap (λ (ls : List (List ℕ)). rows ++ ls) lacks.lines) takes.each;
-      number = takes.number;
-      blank = lacks.blank;
-      line = omega (arith, takes.number);
-      refused = lacks.none;
-    })
-
-pub is_import : (text rest behind : List ℕ) (h : Header) (rows : List (List ℕ)) → length text ≤ MOST_BYTES → StartsWith text h rest → TakesRows h (h.s * h.depth) rest behind rows → All IsBlankLine (lines_of behind)
-    → IsImport text h (flat_map digits_of rows)
-is_import text rest behind h rows few starts takes blank = record {
-  rows = rows;
-  blanks = lines_of behind;
-  begins = begins text rest h rows (lines_of behind) few starts takes.lines takes.each;
-  number = takes.number;
-  digits_are = refl;
-  blank = blank;
-}
-
-pub grammar_end : (text rest behind : List ℕ) (h : Header) (rows : List (List ℕ)) → length text ≤ MOST_BYTES → StartsWith text h rest → TakesRows h (h.s * h.depth) rest behind rows → (r : Result (Unit {0}) FormRefused)
-    → MatchResult r (λ _. All IsBlankLine (lines_of behind)) (LacksBlank (h.s * h.depth + 2) behind) → MatchResult r (λ _. (g : Header) × (digits : List ℕ) × IsImport text g digits) (IsRefusal text)
-grammar_end text rest behind h rows few starts takes (Ok _) blank = (h, flat_map digits_of rows, is_import text rest behind h rows few starts takes blank)
-grammar_end text rest behind h rows few starts takes (Err e) lacks = refused_end text rest behind h rows e few starts takes lacks
 
 pub length-digits : (q m : ℕ) (rows : List (List ℕ)) → All (IsRow q m) rows → length (flat_map digits_of rows) ≡ length rows * m
 length-digits q m [] each = sym (zero-mul m)
@@ -173,10 +90,10 @@ pub has_rows : (h : Header) (text rest : List ℕ) (rows : List (List ℕ)) → 
 has_rows h text rest rows is takes =
     ap (λ (ls : List (List ℕ)). take (h.s * h.depth) ls) takes.lines ∙ take_at rows (lines_of rest) (h.s * h.depth) takes.number
 
-pub has_header : (text : List ℕ) (h : Header) (digits : List ℕ) → IsImport text h digits → HasHeader text h
-has_header text h digits is = record {
+pub has_header : (text : List ℕ) (h : Header) (note digits : List ℕ) → IsImport text h note digits → HasHeader text h
+has_header text h note digits is = record {
   line = is.begins.first;
-  others = is.rows ++ is.blanks;
+  others = is.source ++ (is.rows ++ is.blanks);
   lines = is.begins.lines;
   header = is.begins.header;
 }

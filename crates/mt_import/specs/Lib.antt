@@ -1,7 +1,9 @@
 pub mod Lines
+pub mod Sources
 pub mod Headers
 pub mod HeaderParts
 pub mod Texts
 pub mod Canonical
+pub mod SourceAnswers
 pub mod Reading
 pub mod Laws

@@ -51,6 +51,25 @@ abbrev pub words_of : List ℕ → List (List ℕ)
 words_of [] = []
 words_of (b ∷ bs) = if is_blank b then words_of bs else (if goes_on bs then onto_first b (words_of bs) else (b ∷ []) ∷ words_of bs)
 
+-- a line from its first byte on that is no blank
+abbrev pub from_word : List ℕ → List ℕ
+from_word [] = []
+from_word (b ∷ bs) = if is_blank b then from_word bs else b ∷ bs
+
+-- a byte onto a line, which is left off where it is a blank and the line is empty
+abbrev pub onto_word : ℕ → List ℕ → List ℕ
+onto_word b [] = if is_blank b then [] else b ∷ []
+onto_word b (c ∷ cs) = b ∷ c ∷ cs
+
+-- a line up to its last byte that is no blank
+abbrev pub to_word : List ℕ → List ℕ
+to_word [] = []
+to_word (b ∷ bs) = onto_word b (to_word bs)
+
+-- a line without the blanks at its ends
+abbrev pub trimmed : List ℕ → List ℕ
+trimmed line = to_word (from_word line)
+
 -- a line without its blanks
 abbrev pub without_blanks : List ℕ → List ℕ
 without_blanks line = filter (λ b. not (is_blank b)) line

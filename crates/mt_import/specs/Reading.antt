@@ -9,6 +9,7 @@ use Rattle.mt_import.specs.declared.refusals.Wanted.TheVariants.{Row, Blank}
 use Rattle.mt_import.specs.declared.refusals.ImportRefused.{ImportRefused}
 use Rattle.mt_import.specs.declared.refusals.ImportRefused.TheVariants.{Form, Memory}
 use Rattle.mt_import.specs.Lines.{lines_of}
+use Rattle.mt_import.specs.Sources.{IsSource}
 use Rattle.mt_import.specs.Headers.{IsHeader, IsHeaderLine}
 use Rattle.mt_import.specs.Texts.{IsRow, digits_of, IsBlankLine, HasNoRow, IsRefusal}
 use Rattle.mt_import.specs.Canonical.{IsTextOf}
@@ -18,6 +19,13 @@ pub record StartsWith (text : List ℕ) (h : Header) (rest : List ℕ) : Type 0 
   pub line : List ℕ
   pub lines : lines_of text ≡ line ∷ lines_of rest
   pub header : IsHeaderLine line h
+
+-- the source line, where there is one, with the rest behind it, whose first line has this number
+pub record TakesSource (text note rest : List ℕ) (n : ℕ) : Type 0 where
+  pub source : List (List ℕ)
+  pub lines : lines_of text ≡ source ++ lines_of rest
+  pub source_is : IsSource source note (lines_of rest)
+  pub number : n ≡ length source + 2
 
 -- the claim of the text, or why it has none
 abbrev pub IsReading : List ℕ → Result Claim ImportRefused → Type 0
@@ -38,11 +46,12 @@ pub record HasRows (h : Header) (text : List ℕ) : Type 0 where
 -- what an import text says
 pub record Said : Type 0 where
   pub header : Header
+  pub note : List ℕ
   pub digits : List ℕ
 
--- by this header and a text that begins with its rows
-abbrev pub said_by : Header → List ℕ → Said
-said_by h text = record { header = h; digits = flat_map digits_of (row_lines h text) }
+-- by this header, this note and a text that begins with the rows of the header
+abbrev pub said_by : Header → List ℕ → List ℕ → Said
+said_by h note text = record { header = h; note = note; digits = flat_map digits_of (row_lines h text) }
 
 -- so many rows, with the rest behind them
 pub record TakesRows (h : Header) (n : ℕ) (text rest : List ℕ) (rows : List (List ℕ)) : Type 0 where
@@ -50,15 +59,15 @@ pub record TakesRows (h : Header) (n : ℕ) (text rest : List ℕ) (rows : List 
   pub lines : lines_of text ≡ rows ++ lines_of rest
   pub each : All (IsRow h.q h.m) rows
 
--- fewer rows than n, and then none
-pub record LacksRow (h : Header) (n : ℕ) (text : List ℕ) (refused : FormRefused) : Type 0 where
+-- fewer rows than n, and then none; the first line is number first
+pub record LacksRow (h : Header) (n first : ℕ) (text : List ℕ) (refused : FormRefused) : Type 0 where
   pub rows : List (List ℕ)
   pub others : List (List ℕ)
   pub lines : lines_of text ≡ rows ++ others
   pub each : All (IsRow h.q h.m) rows
   pub fewer : length rows < n
   pub none : HasNoRow h.q h.m others
-  pub refused_is : refused ≡ Line (length rows + 2) Row
+  pub refused_is : refused ≡ Line (first + length rows) Row
 
 -- blank lines, and then one that is not; the first line is number n
 pub record LacksBlank (n : ℕ) (text : List ℕ) (refused : FormRefused) : Type 0 where

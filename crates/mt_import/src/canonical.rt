@@ -1,12 +1,13 @@
 //! The canonical text of a claim.
 ghost use Rattle.std.specs.Prelude.{◌≡◌, ℕ, ◌+◌, ◌*◌, ◌<◌, ◌≤◌, ◌∷◌, ◌++◌, length, map, flat_map, decimal, All, IfOk, OnOk};
 ghost use Rattle.mt_system.specs.Statements.{statement_of};
+ghost use Rattle.mt_system.specs.Notes.{IsNote};
 ghost use Rattle.mt_import.specs.declared.import_text.TheConstants.{MOST_BYTES};
 ghost use Rattle.mt_import.specs.Lines.{space, digit_zero};
 ghost use Rattle.mt_import.specs.Headers.{numbers_by};
-ghost use Rattle.mt_import.specs.Canonical.{header_of, rows_text, canonical_text, IsTextOf};
+ghost use Rattle.mt_import.specs.Canonical.{header_of, source_text, rows_text, canonical_text, IsTextOf};
 
-use mt_system::{Claim, Form};
+use mt_system::{Claim, Form, Note};
 use std::alloc::{AllocError, Global};
 
 /// The canonical text of the claim.
@@ -20,6 +21,7 @@ pub fn print_import(alloc: Global, claim: &Claim) -> Result<Vec<u8>, AllocError>
     text.push(b' ')?;
     text.extend_from_slice(claim.name.bytes())?;
     text.push(b'\n')?;
+    push_source(&mut text, &claim.note)?;
     push_rows(&mut text, claim.system.digits(), claim.system.m())?;
     Ok(text)
 }
@@ -55,6 +57,21 @@ fn push_number(alloc: Global, text: &mut Vec<u8>, number: u8) -> Result<(), Allo
 {
     let digits = format!(in alloc; "{number}")?;
     text.extend_from_slice(digits.as_bytes())?;
+    Ok(())
+}
+
+// Adds the source line of this note, where it says anything.
+fn push_source(text: &mut Vec<u8>, note: &Note) -> Result<(), AllocError>
+    ensures added { OnOk result (text.new.items ≡ text.old.items ++ source_text note.now) }
+    ensures form { IsNote note.now }
+{
+    let note = note.bytes();
+    if note.is_empty() {
+        return Ok(());
+    }
+    text.extend_from_slice(b"source ")?;
+    text.extend_from_slice(note)?;
+    text.push(b'\n')?;
     Ok(())
 }
 

@@ -6,27 +6,29 @@ ghost use Rattle.mt_import.specs.declared.refusals.FormRefused.{FormRefused};
 ghost use Rattle.mt_import.specs.declared.import_text.TheConstants.{MOST_BYTES};
 ghost use Rattle.mt_import.specs.Lines.{lines_of};
 ghost use Rattle.mt_import.specs.Headers.{IsHeader};
-ghost use Rattle.mt_import.specs.Texts.{IsRow, digits_of, IsBlankLine, HasNoRow, HasHeader, IsImport, IsRefusal};
+ghost use Rattle.mt_import.specs.Texts.{IsRow, digits_of, IsBlankLine, HasBadSource, HasNoRow, HasHeader, IsImport, IsRefusal};
 ghost use Rattle.mt_import.specs.Canonical.{header_of};
-ghost use Rattle.mt_import.specs.Reading.{StartsWith, IsReading, HasRows, row_lines, TakesRows, LacksRow, LacksBlank};
+ghost use Rattle.mt_import.specs.Reading.{StartsWith, TakesSource, IsReading, HasRows, row_lines, TakesRows, LacksRow, LacksBlank};
 
 use crate::headers::{Header, read_line};
 use crate::lines::split_line;
 use crate::refusals::{FormRefused, ImportRefused, Wanted};
 use crate::rows::{is_blank_line, is_row, push_digits};
+use crate::source_line::{SourceLine, read_source_line};
 use mt_linear::Order;
-use mt_system::{Claim, System};
+use mt_system::{Claim, Note, System};
 use std::alloc::{AllocError, Global};
 use std::marker::Model;
 
 /// How many bytes a text may have.
 pub const MOST_BYTES: usize = 65_536;
 
-/// A text that is an import text: its header is known, and its rows can be read.
+/// A text that is an import text: its header and its note are known, and its rows can be read.
 #[derive(Drop)]
 pub struct ImportText<'a> {
     header: Header,
-    // The text behind the header.
+    note: Note,
+    // The text from the first row on.
     rows: &'a [u8],
 }
 
@@ -35,7 +37,7 @@ impl<'a> Model for ImportText<'a> {
 
     ghost Value = { Said };
 
-    ghost view = { λ t. said_by t.header t.rows.now };
+    ghost view = { λ t. said_by t.header t.note t.rows.now };
 
     ghost invariant = { λ t. HasRows t.header t.rows.now };
 }
@@ -44,16 +46,20 @@ impl<'a> ImportText<'a> {
     /// The text, or why it is no import text: it has more than [`MOST_BYTES`] bytes, or this is the
     /// first refused line.
     pub fn of(bytes: &'a [u8]) -> Result<ImportText<'a>, FormRefused>
-        ensures { MatchResult result (λ t. IsImport bytes.now t.header t.digits)
+        ensures { MatchResult result (λ t. IsImport bytes.now t.header t.note t.digits)
             (IsRefusal bytes.now) }
     {
-        let (header, rows) = match read_start(bytes) {
+        let (header, behind) = match read_start(bytes) {
             Ok(start) => start,
             Err(refused) => return Err(refused),
         };
-        let rest = pass_rows(rows, &header)?;
-        read_end(rest, count_rows(&header) + 2)?;
-        Ok(ImportText { header, rows })
+        let (note, rows, first) = match read_source(behind) {
+            Ok(source) => source,
+            Err(refused) => return Err(refused),
+        };
+        let rest = pass_rows(rows, &header, first)?;
+        read_end(rest, first + count_rows(&header))?;
+        Ok(ImportText { header, note, rows })
     }
 
     /// Its header.
@@ -70,10 +76,11 @@ impl<'a> ImportText<'a> {
         requires coordinates { self.now.header.s < 256 }
         requires depth { self.now.header.depth < 256 }
         ensures header { IfOk result (λ c. header_of (statement_of c) ≡ self.now.header) }
+        ensures note { IfOk result (λ c. c.note ≡ self.now.note) }
         ensures digits { IfOk result (λ c. c.system.digits ≡ self.now.digits) }
     {
         let digits = read_rows(alloc, self.rows, &self.header)?;
-        Ok(claim_of(&self.header, digits))
+        Ok(claim_of(&self.header, digits).noted(self.note))
     }
 }
 
@@ -89,7 +96,7 @@ pub fn read_header(bytes: &[u8]) -> Option<Header>
 /// Whether this is an import text. Else it answers why it is none, as [`ImportText::of`] does.
 pub fn in_grammar(bytes: &[u8]) -> Result<(), FormRefused>
     ensures { MatchResult result
-        (λ _. (h : Header) × (digits : List ℕ) × IsImport bytes.now h digits)
+        (λ _. (h : Header) × (note : List ℕ) × (digits : List ℕ) × IsImport bytes.now h note digits)
         (IsRefusal bytes.now) }
 {
     match ImportText::of(bytes) {
@@ -128,6 +135,26 @@ fn read_start(bytes: &[u8]) -> Result<(Header, &[u8]), FormRefused>
     Ok((header, rest))
 }
 
+// The note of the source line, or the empty one where there is no source line, and the text from
+// the first row on with the number of its first line.
+fn read_source(text: &[u8]) -> Result<(Note, &[u8], u32), FormRefused>
+    ensures { MatchResult result
+        (λ r. (length r.1.now ≤ length text.now) × (r.2 ≤ 3) × TakesSource text.now r.0 r.1.now r.2)
+        (λ e. (e ≡ FormRefused.Line 2 Wanted.Source) × HasBadSource (lines_of text.now)) }
+{
+    let Some((line, behind)) = split_line(text) else {
+        return Ok((Note::empty(), text, 2));
+    };
+    match read_source_line(line) {
+        SourceLine::Absent => Ok((Note::empty(), text, 2)),
+        SourceLine::Found(note) => Ok((note, behind, 3)),
+        SourceLine::Refused => Err(FormRefused::Line {
+            line: 2,
+            wanted: Wanted::Source,
+        }),
+    }
+}
+
 fn count_rows(header: &Header) -> u32
     requires { IsHeader header.now }
     ensures value { result ≡ header.now.s * header.now.depth }
@@ -136,17 +163,18 @@ fn count_rows(header: &Header) -> u32
     header.s as u32 * header.depth as u32
 }
 
-// The text behind the rows.
-fn pass_rows<'a>(text: &'a [u8], header: &Header) -> Result<&'a [u8], FormRefused>
-    requires { IsHeader header.now }
+// The text behind the rows. The first line has this number.
+fn pass_rows<'a>(text: &'a [u8], header: &Header, first: u32) -> Result<&'a [u8], FormRefused>
+    requires header { IsHeader header.now }
+    requires small { first ≤ 3 }
     ensures { MatchResult result
         (λ r. (length r.now ≤ length text.now) × ((rows : List (List ℕ))
         × TakesRows header.now (header.now.s * header.now.depth) text.now r.now rows))
-        (LacksRow header.now (header.now.s * header.now.depth) text.now) }
+        (LacksRow header.now (header.now.s * header.now.depth) first text.now) }
 {
     let mut rest = text;
     for passed in 0..count_rows(header) {
-        let (_, behind) = split_row(rest, header, passed + 2)?;
+        let (_, behind) = split_row(rest, header, first + passed)?;
         rest = behind;
     }
     Ok(rest)

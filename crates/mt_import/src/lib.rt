@@ -9,6 +9,7 @@ pub mod laws;
 mod lines;
 mod refusals;
 mod rows;
+mod source_line;
 #[cfg(test)]
 mod tests;
 

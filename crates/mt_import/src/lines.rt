@@ -1,6 +1,6 @@
 //! Lines of a text, and words of a line.
 ghost use Rattle.std.specs.Prelude.{◌≡◌, ◌≢◌, ◌<◌, [], ◌∷◌, true, false, length, take, drop, slice_index, All, MatchOption, IfSome};
-ghost use Rattle.mt_import.specs.Lines.{line_feed, is_blank, lines_of, words_of, without_return};
+ghost use Rattle.mt_import.specs.Lines.{line_feed, is_blank, lines_of, words_of, without_return, from_word, to_word, trimmed};
 
 /// Whether the byte is a space or a tab.
 pub fn is_blank(byte: u8) -> bool
@@ -74,4 +74,35 @@ fn word_end(line: &[u8]) -> Option<usize>
         × All (λ b. is_blank b ≡ false) (take i line.now)) }
 {
     line.iter().position(|byte| is_blank(*byte))
+}
+
+/// The line without the blanks at its ends.
+pub fn trimmed(line: &[u8]) -> &[u8]
+    ensures { result.now ≡ trimmed line.now }
+{
+    to_word(from_word(line))
+}
+
+/// The line from its first byte on that is no blank.
+pub fn from_word(line: &[u8]) -> &[u8]
+    ensures { result.now ≡ from_word line.now }
+{
+    match word_start(line) {
+        Some(start) => &line[start..],
+        None => &[],
+    }
+}
+
+// The line up to its last byte that is no blank.
+fn to_word(line: &[u8]) -> &[u8]
+    ensures { result.now ≡ to_word line.now }
+{
+    let mut kept = line;
+    while let Some((last, prefix)) = kept.split_last() {
+        if !is_blank(*last) {
+            return kept;
+        }
+        kept = prefix;
+    }
+    kept
 }

@@ -10,6 +10,8 @@ use thiserror::Error;
 pub enum Wanted {
     /// The header, on line 1.
     Header,
+    /// A source line, on line 2.
+    Source,
     /// A row.
     Row,
     /// A line of blanks, behind the rows.
@@ -20,6 +22,7 @@ impl fmt::Display for Wanted {
     fn fmt<W: fmt::Write>(&self, f: &mut fmt::Formatter<W>) -> fmt::Result {
         match self {
             Wanted::Header => write!(f, "no header"),
+            Wanted::Source => write!(f, "no source"),
             Wanted::Row => write!(f, "no row"),
             Wanted::Blank => write!(f, "not blank"),
         }

@@ -1,9 +1,9 @@
 //! Small texts.
 ghost use Rattle.std.specs.Prelude.{◌<◌};
 
-use crate::{FormRefused, Wanted, in_grammar, print_import, read_header};
+use crate::{FormRefused, ImportText, Wanted, in_grammar, print_import, read_header};
 use mt_linear::Order;
-use mt_system::{Claim, Form, Name, System};
+use mt_system::{Claim, Form, Name, Note, System};
 use std::alloc::Global;
 use std::test::Fail;
 
@@ -26,17 +26,79 @@ fn reads_headers(rt: HostRuntime) -> Result<(), Fail> {
 
 #[test]
 fn refuses_the_first_line(rt: HostRuntime) -> Result<(), Fail> {
-    let cases: [(&[u8], u32, Wanted); 6] = [
+    let cases: [(&[u8], u32, Wanted); 9] = [
         (b"", 1, Wanted::Header),
         (b"ooa 6 2 1 1 1 six\n10\n", 1, Wanted::Header),
         (b"ooa 2 2 1 1 1 bad\n12\nx", 2, Wanted::Row),
         (b"ooa 2 2 1 2 2 cut\n10\n0", 3, Wanted::Row),
         (b"ooa 2 2 1 2 2 cut\n10\n", 3, Wanted::Row),
         (b"ooa 2 2 1 1 2 one\n10\n\nx\ny", 4, Wanted::Blank),
+        (b"ooa 2 2 1 1 2 one\nsource a\n12\n", 3, Wanted::Row),
+        (b"ooa 2 2 1 2 2 cut\nsource a\n10\n", 4, Wanted::Row),
+        (
+            b"ooa 2 2 1 1 2 one\nsource a\n10\n\nsource a\n",
+            5,
+            Wanted::Blank,
+        ),
     ];
     for (text, line, wanted) in cases {
         assert_eq!(rt; in_grammar(text), Err(FormRefused::Line { line, wanted }));
     }
+    Ok(())
+}
+
+// The note of an array of one row with this line 2. `None` where line 2 is refused as a source line.
+fn note_of(alloc: Global, line: &[u8]) -> Result<Option<Note>, Fail> {
+    let mut text = Vec::from_slice(alloc, b"ooa 2 2 1 1 2 one\n")?;
+    text.extend_from_slice(line)?;
+    text.extend_from_slice(b"\n10\n")?;
+    let refused = FormRefused::Line {
+        line: 2,
+        wanted: Wanted::Source,
+    };
+    match ImportText::of(&text) {
+        Ok(import) => {
+            let header = import.header();
+            if header.m > 255 || header.s > 255 || header.depth > 255 {
+                return Err("sizes".into());
+            }
+            Ok(Some(import.claim(alloc)?.note))
+        }
+        Err(found) if found == refused => Ok(None),
+        Err(_) => Err("refused elsewhere".into()),
+    }
+}
+
+#[test]
+fn reads_source_lines(rt: HostRuntime) -> Result<(), Fail> {
+    let alloc = rt.alloc();
+    let taken: [(&[u8], &[u8]); 5] = [
+        (b"source by hand", b"by hand"),
+        (b" \tsource\t by  hand \t", b"by  hand"),
+        (b"source\tby hand\r", b"by hand"),
+        (b"source 10", b"10"),
+        (b"source source", b"source"),
+    ];
+    for (line, note) in taken {
+        let found = note_of(alloc, line)?.ok_or("refused")?;
+        assert_eq!(rt; found.bytes(), note);
+    }
+    let refused: [&[u8]; 6] = [
+        b"source",
+        b"\tsource \t",
+        b"sourcex 1",
+        b"source\ra",
+        b"source a\tb",
+        b"source \x7f",
+    ];
+    for line in refused {
+        assert!(rt; note_of(alloc, line)?.is_none());
+    }
+    let mut line = Vec::from_slice(alloc, b"source ")?;
+    line.extend_from_slice(&[b'a'; 200])?;
+    assert!(rt; note_of(alloc, &line)?.is_some());
+    line.push(b'a')?;
+    assert!(rt; note_of(alloc, &line)?.is_none());
     Ok(())
 }
 
@@ -62,6 +124,14 @@ fn prints_claims(rt: HostRuntime) -> Result<(), Fail> {
     let one = system_of(alloc, Order::Q2, 2, 1, &[1, 0])?;
     let text = print_import(alloc, &claim_of(Form::Ooa, b"one", 2, one)?)?;
     assert_eq!(rt; text.as_slice(), b"ooa 2 2 1 1 2 one\n10\n".as_slice());
+
+    let one = system_of(alloc, Order::Q2, 2, 1, &[1, 0])?;
+    let noted = claim_of(Form::Ooa, b"one", 2, one)?.noted(Note::of(b"by hand").ok_or("note")?);
+    let text = print_import(alloc, &noted)?;
+    assert_eq!(rt;
+        text.as_slice(),
+        b"ooa 2 2 1 1 2 one\nsource by hand\n10\n".as_slice()
+    );
 
     let digits = [1u8, 0, 0, 1, 0, 0, 0, 1, 0, 0, 1, 0, 0, 0, 0, 0];
     let cap = system_of(alloc, Order::Q2, 4, 4, &digits)?;

@@ -1,4 +1,4 @@
-use Rattle.std.proofs.Common.{◌≡◌, List, take, drop, flat_map}
+use Rattle.std.proofs.Common.{◌≡◌, take, drop, flat_map}
 use Rattle.mt_import.specs.Lines.{lines_of}
 use Rattle.mt_import.specs.Texts.{digits_of}
 use Rattle.mt_import.proofs.import_text.read_rows.Given as goal

@@ -1,4 +1,4 @@
-use Rattle.std.proofs.Common.{◌≡◌, ◌*◌, ◌<◌, List, ℕ, length, All, ap, ◌∙◌, subst, sym}
+use Rattle.std.proofs.Common.{◌*◌, ◌<◌, List, ℕ, length, All, ap, ◌∙◌, subst, sym}
 use Rattle.mt_import.specs.Reading.{row_lines}
 use Rattle.mt_import.proofs.ReadingLemmas.{length-digits, small_digits}
 use Rattle.mt_import.proofs.import_text.ImportText.claim.Goals as goal
