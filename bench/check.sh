@@ -1,6 +1,6 @@
 #!/usr/bin/env bash
 # Time mint beside the plain C program on the same texts and compare their answers: for each of the
-# seven orders an array of 435,897 to 499,178 choices that holds, for all but 2 the same array that
+# seven orders an array of 3,838,380 or 3,930,551 choices that holds, for all but 2 the same array that
 # fails at its very last choice, and a net and a sequence over 9.
 # Prints for each text the milliseconds of both (median of 5 runs in turn, the start
 # of the process included) and their ratio, and for a text that fails the ratio of mint's time to that
@@ -36,14 +36,14 @@ done
 
 # answer_of PROGRAM TEXT: what it prints, and its status
 answer_of() {
-    "$1" :memory: - 16,32 check <"$2"
+    "$1" :memory: - 20,48 check <"$2"
     echo "status $?"
 }
 
 # time_of PROGRAM TEXT: microseconds of one run
 time_of() {
     local start=${EPOCHREALTIME/./}
-    "$1" :memory: - 16,32 check <"$2" >/dev/null
+    "$1" :memory: - 20,48 check <"$2" >/dev/null
     echo $((${EPOCHREALTIME/./} - start))
 }
 

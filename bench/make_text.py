@@ -1,12 +1,12 @@
 #!/usr/bin/env python3
-"""Print an import text of some 350,000 to 500,000 choices whose strength holds, or fails at its last.
+"""Print an import text of some 3,300,000 to 3,900,000 choices whose strength holds, or fails at its last.
 
-make_text.py array Q [SEED]   an array over Q elements, 435,897 choices of random digits from a seed, or
-                              over 2 the 499,178 of a shortened extended BCH code; the default is the
+make_text.py array Q [SEED]   an array over Q elements, 3,838,380 choices of random digits from a seed, or
+                              over 2 the 3,930,551 of a shortened extended BCH code; the default is the
                               first seed from 1 on whose strength holds
 make_text.py last Q [SEED]    the same array over more than 2, of whose choices the last alone is dependent
-make_text.py net              a net from Niederreiter's sequence over 9, 352,716 choices
-make_text.py sequence         Niederreiter's sequence over 9, 352,715 choices
+make_text.py net              a net from Niederreiter's sequence over 9, 3,268,760 choices
+make_text.py sequence         Niederreiter's sequence over 9, 3,268,759 choices
 """
 
 import os
@@ -17,7 +17,7 @@ sys.path.insert(0, os.path.join(os.path.dirname(os.path.abspath(__file__)), '..'
 import make
 
 FIRST_GOOD_SEEDS = {3: 1, 4: 1, 5: 1, 7: 1, 8: 1, 9: 1}
-DIGITS, COORDINATES, STRENGTH = 16, 32, 5
+DIGITS, COORDINATES, STRENGTH = 20, 34, 6
 
 
 def random_digits(seed, order):
@@ -35,10 +35,10 @@ def random_array(seed, order):
 
 
 def shortened_code():
-    """28 points of the extended BCH code of length 32 whose dual distance is 8: (1, a, a^3, a^5)."""
-    field = make.Field(2, (1, 0, 1, 0, 0, 1))
-    return [[[1] + [bit for power in (1, 3, 5) for bit in make.digits_of(field.power(a, power), 2, 5)]]
-            for a in range(28)]
+    """39 points of the extended BCH code of length 64 with dual distance 8: 1, a, a^3, a^5 and a zero."""
+    field = make.Field(2, (1, 1, 0, 0, 0, 0, 1))
+    return [[[1] + [bit for power in (1, 3, 5) for bit in make.digits_of(field.power(a, power), 2, 6)] + [0]]
+            for a in range(39)]
 
 
 def array(order, seed=None):
@@ -69,10 +69,10 @@ def text_of(order, coordinates, strength, name):
 
 def main(kind, order=None, seed=None):
     if kind in ('net', 'sequence') and order is None:
-        sequence = make.niederreiter(make.field_of(9), 11, 9)
+        sequence = make.niederreiter(make.field_of(9), 15, 9)
         if kind == 'net':
-            return make.Example('net 9 11 10 0 net', make.with_reversed(sequence)).text
-        return make.Example('seq 9 11 9 0 sequence', sequence).text
+            return make.Example('net 9 15 10 0 net', make.with_reversed(sequence)).text
+        return make.Example('seq 9 15 9 0 sequence', sequence).text
     if (kind, order) == ('last', '2') or kind not in ('array', 'last') or order not in list('2345789'):
         sys.exit(__doc__)
     coordinates, strength = array(int(order), seed)

@@ -11,8 +11,8 @@
 #include <stdlib.h>
 #include <string.h>
 
-enum { MOST_DIGITS = 16, MOST_COORDINATES = 32, MOST_ORDER = 9 };
-enum { MOST_BYTES = 65536, MOST_CHOICES = 500000 };
+enum { MOST_DIGITS = 20, MOST_COORDINATES = 48, MOST_ORDER = 9 };
+enum { MOST_BYTES = 65536, MOST_CHOICES = 4000000, MOST_NOTE = 200 };
 
 static int order, digits, coordinates, depth;
 static uint8_t matrix[MOST_COORDINATES][MOST_DIGITS][MOST_DIGITS];
@@ -91,8 +91,8 @@ static inline binary binary_clear(binary_pivot pivot, binary row)
     return row ^ (pivot.row & -(row >> pivot.place & 1));
 }
 
-/* Over 3: bits 0..15 for the digits 1, bits 16..31 for the digits 2. */
-typedef uint32_t ternary;
+/* Over 3: bits 0..31 for the digits 1, bits 32..63 for the digits 2. */
+typedef uint64_t ternary;
 typedef struct { ternary row, opposite; int place; } ternary_pivot;
 
 static ternary ternary_pack(const uint8_t *row)
@@ -100,18 +100,18 @@ static ternary ternary_pack(const uint8_t *row)
     ternary result = 0;
     for (int place = 0; place < digits; place++)
         if (row[place])
-            result |= (ternary)1 << (place + 16 * (row[place] - 1));
+            result |= (ternary)1 << (place + 32 * (row[place] - 1));
     return result;
 }
 
 static int ternary_is_zero(ternary row) { return row == 0; }
 
-static inline ternary ternary_negative(ternary row) { return row << 16 | row >> 16; }
+static inline ternary ternary_negative(ternary row) { return row << 32 | row >> 32; }
 
 static ternary_pivot ternary_pivot_of(ternary row)
 {
     int place = 0;
-    while (!((row | row >> 16) >> place & 1))
+    while (!((row | row >> 32) >> place & 1))
         place++;
     if (!(row >> place & 1))
         row = ternary_negative(row);
@@ -121,7 +121,7 @@ static ternary_pivot ternary_pivot_of(ternary row)
 static inline ternary ternary_clear(ternary_pivot pivot, ternary row)
 {
     ternary added = (pivot.opposite & -(row >> pivot.place & 1))
-                  | (pivot.row & -(row >> (pivot.place + 16) & 1));
+                  | (pivot.row & -(row >> (pivot.place + 32) & 1));
     ternary other = ternary_negative(row), turned = ternary_negative(added);
     return (other | turned) ^ (row | turned) ^ (other | added);
 }
@@ -392,6 +392,35 @@ static int read_header(void)
         && depth <= digits && strength >= 0 && strength <= digits;
 }
 
+/* Whether the next line is no source line or a good one, which is then passed. */
+static int pass_source(void)
+{
+    const char *before = unread;
+    piece line;
+    if (!next_line(&line)) {
+        line_number--;
+        return 1;
+    }
+    while (line.start < line.end && is_blank(*line.start))
+        line.start++;
+    while (line.start < line.end && is_blank(line.end[-1]))
+        line.end--;
+    if (line.end - line.start < 6 || memcmp(line.start, "source", 6) != 0) {
+        unread = before;
+        line_number--;
+        return 1;
+    }
+    const char *note = line.start + 6;
+    while (note < line.end && is_blank(*note))
+        note++;
+    if (note == line.start + 6 || note == line.end || line.end - note > MOST_NOTE)
+        return 0;
+    for (; note < line.end; note++)
+        if (*note < ' ' || *note > '~')
+            return 0;
+    return 1;
+}
+
 /* Reads a row past the greatest sizes too, but keeps no digit of it. */
 static int read_row(int at, int row)
 {
@@ -427,6 +456,8 @@ int main(void)
     }
     if (!read_header())
         return refused_line("no header");
+    if (!pass_source())
+        return refused_line("no source");
     for (int at = 0; at < coordinates; at++)
         for (int row = 0; row < depth; row++)
             if (!read_row(at, row))

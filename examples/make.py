@@ -262,7 +262,8 @@ def first_rows(coordinates, depth):
 
 NUMBER = re.compile('0|[1-9][0-9]{0,2}')
 NAME = re.compile('[a-z0-9_.-]{1,40}')
-MOST_DIGITS, MOST_COORDINATES, MOST_BYTES, MOST_CHOICES = 16, 32, 65536, 500000
+SOURCE = re.compile('source[ \t]+([!-~](?:[ -~]{0,198}[!-~])?)')
+MOST_DIGITS, MOST_COORDINATES, MOST_BYTES, MOST_CHOICES = 16, 32, 65536, 4000000
 
 
 class Refused(Exception):
@@ -281,7 +282,7 @@ class Claim:
         self.order, self.digits, self.count = numbers[:3]
         self.depth = numbers[3] if self.form == 'ooa' else self.digits
         self.strength = numbers[4] if self.form == 'ooa' else self.digits - numbers[3]
-        self.coordinates = None
+        self.coordinates, self.note = None, ''
         if self.order not in (2, 3, 4, 5, 7, 8, 9) or self.count < 1 \
                 or not 1 <= self.depth <= self.digits or not 0 <= self.strength <= self.digits:
             raise Refused('line 1 is no header')
@@ -325,8 +326,14 @@ def read(text):
     lines = lines_of(text)
     claim = Claim(words_of(lines[0] if lines else ''))
     row_of = re.compile('[0-{}]{{{}}}'.format(claim.order - 1, claim.digits))
-    rows, end = [], claim.count * claim.depth + 1
-    for number in range(1, end):
+    first = 1
+    if len(lines) > 1 and lines[1].lstrip(' \t').startswith('source'):
+        source = SOURCE.fullmatch(lines[1].strip(' \t'))
+        if not source:
+            raise Refused('line 2 is no source')
+        claim.note, first = source[1], 2
+    rows, end = [], claim.count * claim.depth + first
+    for number in range(first, end):
         row = ''.join(words_of(lines[number])) if number < len(lines) else ''
         if not row_of.fullmatch(row):
             raise Refused('line {} is no row'.format(number + 1))
@@ -345,16 +352,19 @@ def read(text):
 class Example:
     """A text with the answer expected.
 
-    `greatest` says that the strength holds and no more does; `spelled` changes the text.
+    `source` says where the matrices come from; `greatest` that the strength holds and no more does;
+    `spelled` changes the text.
     """
 
-    def __init__(self, header, coordinates, answer=None, greatest=False, spelled=None):
+    def __init__(self, header, coordinates, answer=None, source=None, greatest=False, spelled=None):
         self.claim = Claim(header.split())
         self.claim.coordinates = coordinates
         self.file = self.claim.name + '.txt'
         rows = itertools.chain.from_iterable(coordinates)
-        self.text = '\n'.join([header, *(''.join(map(str, row)) for row in rows), ''])
+        lines = [header, 'source ' + source] if source else [header]
+        self.text = '\n'.join([*lines, *(''.join(map(str, row)) for row in rows), ''])
         assert read(self.text).coordinates == coordinates, header
+        assert read(self.text).note == (source or ''), header
         if spelled:
             self.text = spelled(self.text)
         self.answer = answer or 'holds ' + self.claim.name
@@ -390,14 +400,29 @@ def replaced(line, old, new):
 
 def with_blanks(text):
     """More blanks between the words of the header, and some between the digits of the rows."""
-    header, *rows = text.splitlines()
+    header, source, *rows = text.splitlines()
     rows = [' \t'[number % 2].join(row) + '  ' * (number % 3) for number, row in enumerate(rows)]
-    return '\n'.join(['  ' + header.replace(' ', '\t ') + ' ', *rows, ''])
+    lines = ['  ' + header.replace(' ', '\t ') + ' ', '\t' + source.replace(' ', ' \t', 1) + '  ']
+    return '\n'.join([*lines, *rows, ''])
 
 
 def with_returns(text):
     """A carriage return before each line feed, and blank lines, the last without a line feed."""
     return text.replace('\n', '\r\n') + '\r\n \t\r\n  '
+
+
+GOLAY = 'M. J. E. Golay, Notes on digital coding, 1949'
+HAMMING = 'R. W. Hamming, Error detecting and error correcting codes, 1950'
+BCH = 'R. C. Bose and D. K. Ray-Chaudhuri, On a class of error correcting binary group codes, 1960'
+QUADRIC = 'R. C. Bose, Mathematical theory of the symmetrical factorial design, 1947'
+HEXACODE = 'J. H. Conway and N. J. A. Sloane, Sphere Packings, Lattices and Groups, 1988'
+REED_SOLOMON = 'I. S. Reed and G. Solomon, Polynomial codes over certain finite fields, 1960'
+CORPUT = 'J. G. van der Corput, Verteilungsfunktionen, 1935'
+HAMMERSLEY = 'J. M. Hammersley, Monte Carlo methods for solving multivariable problems, 1960'
+SOBOL = "I. M. Sobol', On the distribution of points in a cube, 1967"
+FAURE = 'H. Faure, Discrepance de suites associees a un systeme de numeration, 1982'
+NIEDERREITER = 'H. Niederreiter, Low-discrepancy and low-dispersion sequences, 1988'
+ROSENBLOOM = 'M. Yu. Rosenbloom and M. A. Tsfasman, Codes for the m-metric, 1997'
 
 
 def examples():
@@ -406,59 +431,75 @@ def examples():
     niederreiter_net = with_reversed(niederreiter(two, 12, 4))
     points_at_infinity = [[[0, 0, 0, 1]], [[0, 0, 1, 0]]]
     return [
-        Example('ooa 2 11 23 1 6 golay', golay(two, 23, 11), greatest=True),
+        Example('ooa 2 11 23 1 6 golay', golay(two, 23, 11), source=GOLAY, greatest=True),
         Example('ooa 2 11 23 1 7 golay-seven', golay(two, 23, 11),
-                dependent('0,0,0,0,0,0,0,0,0,0,0,1,1,0,0,0,1,1,1,0,1,0,1', '1,1,1,1,1,1,1')),
-        Example('ooa 2 12 24 1 7 extended-golay', extended_golay(), greatest=True),
-        Example('ooa 3 5 11 1 4 ternary-golay', golay(three, 11, 5), greatest=True),
+                dependent('0,0,0,0,0,0,0,0,0,0,0,1,1,0,0,0,1,1,1,0,1,0,1', '1,1,1,1,1,1,1'),
+                source=GOLAY),
+        Example('ooa 2 12 24 1 7 extended-golay', extended_golay(), source=GOLAY, greatest=True),
+        Example('ooa 3 5 11 1 4 ternary-golay', golay(three, 11, 5), source=GOLAY, greatest=True),
         Example('ooa 3 5 11 1 5 ternary-golay-five', golay(three, 11, 5),
-                dependent('0,0,0,0,0,1,1,1,1,0,1', '2,2,1,2,1')),
+                dependent('0,0,0,0,0,1,1,1,1,0,1', '2,2,1,2,1'), source=GOLAY),
         Example('ooa 2 4 15 1 2 hamming', hamming(two, 4), greatest=True),
         Example('ooa 2 4 15 1 3 hamming-three', hamming(two, 4),
-                dependent('0,0,0,0,0,0,1,0,0,0,1,1,0,0,0', '1,1,1')),
-        Example('ooa 3 3 13 1 2 ternary-hamming', hamming(three, 3), greatest=True),
-        Example('ooa 2 10 31 1 4 bch-double', bch(5, 2), greatest=True),
-        Example('ooa 2 10 15 1 6 bch-triple', bch(4, 3), greatest=True),
-        Example('ooa 3 4 10 1 3 elliptic-quadric', elliptic_quadric(), greatest=True),
-        Example('ooa 2 8 2 8 8 hammersley', with_reversed([identity(8)]), greatest=True),
-        Example('ooa 2 12 4 12 11 sobol', sobol_net, greatest=True),
+                dependent('0,0,0,0,0,0,1,0,0,0,1,1,0,0,0', '1,1,1'), source=HAMMING),
+        Example('ooa 3 3 13 1 2 ternary-hamming', hamming(three, 3), source=HAMMING, greatest=True),
+        Example('ooa 2 10 31 1 4 bch-double', bch(5, 2), source=BCH, greatest=True),
+        Example('ooa 2 10 15 1 6 bch-triple', bch(4, 3), source=BCH, greatest=True),
+        Example('ooa 3 4 10 1 3 elliptic-quadric', elliptic_quadric(),
+                source=QUADRIC, greatest=True),
+        Example('ooa 2 8 2 8 8 hammersley', with_reversed([identity(8)]),
+                source=HAMMERSLEY, greatest=True),
+        Example('ooa 2 12 4 12 11 sobol', sobol_net, source=SOBOL, greatest=True),
         Example('ooa 2 12 4 12 12 sobol-zero', sobol_net,
-                dependent('0,2,1,9', '1,1,1,1,1,1,0,0,0,1,1,1')),
+                dependent('0,2,1,9', '1,1,1,1,1,1,0,0,0,1,1,1'), source=SOBOL),
         Example('ooa 2 16 7 16 8 niederreiter', with_reversed(niederreiter(two, 16, 6)),
-                greatest=True),
+                source=NIEDERREITER, greatest=True),
         Example('ooa 3 6 4 6 6 faure', with_reversed(faure(3, 6, 3)), greatest=True),
         Example('ooa 3 6 5 6 6 faure-repeated', with_reversed(faure(3, 6, 4)),
-                dependent('1,0,0,1,0', '2,1')),
+                dependent('1,0,0,1,0', '2,1'), source=FAURE),
         Example('ooa 3 6 4 3 6 rosenbloom-tsfasman',
-                first_rows(with_reversed(faure(3, 6, 3)), 3), greatest=True),
-        Example('net 2 12 5 3 niederreiter-net', niederreiter_net, greatest=True),
+                first_rows(with_reversed(faure(3, 6, 3)), 3), source=ROSENBLOOM, greatest=True),
+        Example('net 2 12 5 3 niederreiter-net', niederreiter_net,
+                source=NIEDERREITER, greatest=True),
         Example('net 2 12 5 2 niederreiter-net-two', niederreiter_net,
-                dependent('1,5,1,1,2', '1,1,0,1,0,1,1,1,0,1')),
-        Example('seq 2 12 4 3 sobol-sequence', sobol(12, 4), greatest=True),
+                dependent('1,5,1,1,2', '1,1,0,1,0,1,1,1,0,1'), source=NIEDERREITER),
+        Example('seq 2 12 4 3 sobol-sequence', sobol(12, 4), source=SOBOL, greatest=True),
         Example('seq 2 12 4 2 sobol-sequence-two', sobol(12, 4),
-                dependent('3,0,1,1', '0,0,1,1,1', 7)),
-        Example('seq 3 6 3 0 faure-sequence', faure(3, 6, 3), greatest=True),
+                dependent('3,0,1,1', '0,0,1,1,1', 7), source=SOBOL),
+        Example('seq 3 6 3 0 faure-sequence', faure(3, 6, 3), source=FAURE, greatest=True),
         Example('seq 3 6 4 0 faure-sequence-repeated', faure(3, 6, 4),
-                dependent('1,0,0,1', '2,1', 2)),
-        Example('ooa 4 3 6 1 3 hexacode', hexacode(), greatest=True),
-        Example('net 5 4 6 0 faure-five', with_reversed(faure(5, 4, 5)), greatest=True),
-        Example('seq 7 4 7 0 faure-seven', faure(7, 4, 7), greatest=True),
-        Example('ooa 8 4 8 1 4 reed-solomon', reed_solomon(eight, 4), greatest=True),
+                dependent('1,0,0,1', '2,1', 2), source=FAURE),
+        Example('ooa 4 3 6 1 3 hexacode', hexacode(), source=HEXACODE, greatest=True),
+        Example('net 5 4 6 0 faure-five', with_reversed(faure(5, 4, 5)),
+                source=FAURE, greatest=True),
+        Example('seq 7 4 7 0 faure-seven', faure(7, 4, 7), source=FAURE, greatest=True),
+        Example('ooa 8 4 8 1 4 reed-solomon', reed_solomon(eight, 4),
+                source=REED_SOLOMON, greatest=True),
         Example('ooa 8 4 10 1 4 reed-solomon-ten', reed_solomon(eight, 4) + points_at_infinity,
-                dependent('0,0,0,1,0,1,1,0,0,1', '6,1,7,1')),
-        Example('seq 9 3 9 0 niederreiter-nine', niederreiter(nine, 3, 9), greatest=True),
-        Example('seq 2 16 7 0 niederreiter-zero', niederreiter(two, 16, 7)),
-        Example('seq 2 17 1 0 van-der-corput', [identity(17)], refused('m 17 is over 16')),
-        Example('ooa 2 6 33 1 2 hamming-wide', hamming(two, 6)[:33], refused('s 33 is over 32')),
-        Example('ooa 4 3 6 1 3 hexacode-blanks', hexacode(), greatest=True, spelled=with_blanks),
-        Example('net 5 4 6 0 faure-returns', with_reversed(faure(5, 4, 5)), greatest=True,
+                dependent('0,0,0,1,0,1,1,0,0,1', '6,1,7,1'), source=REED_SOLOMON),
+        Example('seq 9 3 9 0 niederreiter-nine', niederreiter(nine, 3, 9),
+                source=NIEDERREITER, greatest=True),
+        Example('seq 2 16 7 0 niederreiter-zero', niederreiter(two, 16, 7),
+                dependent('0,0,0,0,0,0,1', '1', 1),
+                source=NIEDERREITER),
+        Example('seq 2 16 10 0 niederreiter-many', niederreiter(two, 16, 10), source=NIEDERREITER),
+        Example('seq 2 17 1 0 van-der-corput', [identity(17)], refused('m 17 is over 16'),
+                source=CORPUT),
+        Example('ooa 2 6 33 1 2 hamming-wide', hamming(two, 6)[:33], refused('s 33 is over 32'),
+                source=HAMMING),
+        Example('ooa 4 3 6 1 3 hexacode-blanks', hexacode(),
+                source=HEXACODE, greatest=True, spelled=with_blanks),
+        Example('net 5 4 6 0 faure-returns', with_reversed(faure(5, 4, 5)),
+                source=FAURE, greatest=True,
                 spelled=with_returns),
         Example('ooa 4 3 6 1 3 hexacode-six', hexacode(), refused('line 1 is no header'),
-                spelled=replaced(1, 'ooa 4', 'ooa 6')),
-        Example('ooa 4 3 6 1 3 hexacode-digit', hexacode(), refused('line 7 is no row'),
-                spelled=replaced(7, '3', '4')),
-        Example('ooa 4 3 6 1 3 hexacode-seven', hexacode(), refused('line 8 is not blank'),
-                spelled=lambda text: text + '123\n'),
+                source=HEXACODE, spelled=replaced(1, 'ooa 4', 'ooa 6')),
+        Example('ooa 4 3 6 1 3 hexacode-source', hexacode(), refused('line 2 is no source'),
+                source=HEXACODE, spelled=replaced(2, HEXACODE, '')),
+        Example('ooa 4 3 6 1 3 hexacode-digit', hexacode(), refused('line 8 is no row'),
+                source=HEXACODE, spelled=replaced(8, '3', '4')),
+        Example('ooa 4 3 6 1 3 hexacode-seven', hexacode(), refused('line 9 is not blank'),
+                source=HEXACODE, spelled=lambda text: text + '123\n'),
     ]
 
 
