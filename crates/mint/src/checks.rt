@@ -11,7 +11,7 @@ use mt_system::{Choice, Claim, Form};
 use std::alloc::{AllocError, Global};
 
 /// The most choices that a check tries.
-pub const MOST_CHOICES: u64 = 500_000;
+pub const MOST_CHOICES: u64 = 4_000_000;
 
 /// What a check of an import text found.
 #[derive(Drop)]

@@ -3,10 +3,10 @@ ghost use Rattle.std.specs.Prelude.{◌≡◌, ◌≤◌, ◌↔◌, ◌+◌, �
 ghost use Rattle.mt_cells.specs.declared.bounds.TheConstants.{MOST_COLUMNS, MOST_COORDINATES};
 
 /// The most columns of a cell.
-pub const MOST_COLUMNS: u8 = 16;
+pub const MOST_COLUMNS: u8 = 20;
 
 /// The most coordinates of a cell.
-pub const MOST_COORDINATES: u8 = 32;
+pub const MOST_COORDINATES: u8 = 48;
 
 // At most how many arrays of one order a table has.
 pub(crate) const MOST_ARRAYS: u32 = MOST_COORDINATES as u32

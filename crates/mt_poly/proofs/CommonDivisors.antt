@@ -4,7 +4,7 @@ use Rattle.std.proofs.lemmas.Bool.{cases_lt}
 use Rattle.mt_linear.proofs.Abstract.{Ops, HasFieldLaws, mul_null}
 use Rattle.mt_linear.proofs.Sums.{null_mul, neg-mul}
 use Rattle.mt_poly.proofs.Action.{poly_add, poly_scale, act, Kills, act_cong, act_null, act_shift, act-poly_add, act-poly_scale, act_null-cons, act_one, act_comm}
-use Rattle.mt_poly.proofs.Euclid.{Divides, no_divisors}
+use Rattle.mt_poly.proofs.Divisibility.{Divides, no_divisors}
 
 -- it divides both, and kills what both kill
 pub record CommonDivisor {K : Type 0} (F : Ops K) (p q : List K) : Type 0 where

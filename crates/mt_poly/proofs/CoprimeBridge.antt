@@ -9,7 +9,7 @@ use Rattle.mt_linear.proofs.Sums.{null_mul}
 use Rattle.mt_poly.specs.Polynomials.{IsPolynomial, IsPower, IsMonic, IsCoprime, Divides as DividesList}
 use Rattle.mt_poly.proofs.Action.{poly_power, act, act-terms, act_cong, act_null, same_by_act, coef_mul}
 use Rattle.mt_poly.proofs.Monic.{HasDegree, monic_power}
-use Rattle.mt_poly.proofs.Euclid.{Divides, no_divisors}
+use Rattle.mt_poly.proofs.Divisibility.{Divides, no_divisors}
 use Rattle.mt_poly.proofs.CommonDivisors.{CommonDivisor, common_divisor}
 use Rattle.mt_poly.proofs.Apart.{IsApart}
 use Rattle.mt_poly.proofs.ListLemmas.{length_top}

@@ -11,7 +11,7 @@ use Rattle.mt_linear.proofs.Abstract.{Ops, HasFieldLaws, Digit, digit, digit-inj
 use Rattle.mt_linear.proofs.Sums.{neg-mul}
 use Rattle.mt_poly.specs.Polynomials.{IsPolynomial, IsProduct, IsDivision, IsGreatest, IsCoprime, product_at}
 use Rattle.mt_poly.proofs.Action.{poly_mul, one_mul, act_mul}
-use Rattle.mt_poly.proofs.Euclid.{divides_product, divides_sum, unit_constant, divide_step, gcd_step}
+use Rattle.mt_poly.proofs.Divisibility.{divides_product, divides_sum, unit_constant, divide_step, gcd_step}
 use Rattle.mt_poly.proofs.ListLemmas.{length_top, multiple_past, sum_to_zero}
 use Rattle.mt_poly.proofs.PolynomialBridge.{elements, acts, element_at, acts_of, product_to_act, pair_to_act, pair_from_act, multiple_to_act, division_to_act, division_from_act, divides_from, divides_to}
 

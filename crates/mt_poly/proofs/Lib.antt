@@ -1,6 +1,6 @@
 pub mod Action
 pub mod Monic
-pub mod Euclid
+pub mod Divisibility
 pub mod CommonDivisors
 pub mod Apart
 pub mod ListLemmas

@@ -15,7 +15,7 @@ use Rattle.mt_poly.specs.Polynomials.{IsPolynomial, IsMonic, IsMember, IsCoprime
 use Rattle.mt_poly.specs.CoprimeLists.{number_by, MayFollow, IsNext, IsCoprimeList}
 use Rattle.mt_poly.proofs.Action.{poly_add, act, one_mul, act-poly_add, coef_add}
 use Rattle.mt_poly.proofs.Monic.{HasDegree, monic_one, monic_mul}
-use Rattle.mt_poly.proofs.Euclid.{poly_product, Divides, divides_product, divides_factor, divides_sum, unit_constant}
+use Rattle.mt_poly.proofs.Divisibility.{poly_product, Divides, divides_product, divides_factor, divides_sum, unit_constant}
 use Rattle.mt_poly.proofs.ListLemmas.{length_top}
 use Rattle.mt_poly.proofs.NumberLemmas.{number_same, number_least}
 use Rattle.mt_poly.proofs.PolynomialBridge.{elements, acts, element_at, acts_of, numbers, numbers_in, numbers_at, degree_lifted, divides_to}

@@ -10,7 +10,7 @@ use Rattle.mt_linear.proofs.Abstract.{Ops, HasFieldLaws, sum_of, sum_cong, Digit
 use Rattle.mt_poly.specs.Polynomials.{IsMonic, IsProduct, sum_to, product_at, Divides as NumberDivides}
 use Rattle.mt_poly.proofs.Action.{poly_add, poly_scale, poly_mul, act, act_mul, act_comm, act_same, same_by_act, act-poly_add, act-poly_scale, coef_add, coef_scale, coef_mul}
 use Rattle.mt_poly.proofs.Monic.{HasDegree}
-use Rattle.mt_poly.proofs.Euclid.{Divides}
+use Rattle.mt_poly.proofs.Divisibility.{Divides}
 
 -- coefficients as elements of the field
 abbrev pub elements : (o : Order) → List ℕ → List (Digit (number_of o))
