@@ -8,8 +8,8 @@ use Rattle.mint.specs.declared.checks.Outcome.{Outcome}
 use Rattle.mint.specs.declared.checks.Outcome.TheVariants as outcome
 use Rattle.mint.specs.Outcomes.{IsWithin, IsOutcome, IsClaimOutcome}
 
-pub HasHeader-import : (text : List ℕ) (h : Header) (digits : List ℕ) → IsImport text h digits → HasHeader text h
-HasHeader-import text h digits is = record { line = is.begins.first; others = is.rows ++ is.blanks; lines = is.begins.lines; header = is.begins.header }
+pub HasHeader-import : (text : List ℕ) (h : Header) (note digits : List ℕ) → IsImport text h note digits → HasHeader text h
+HasHeader-import text h note digits is = record { line = is.begins.first; others = is.source ++ (is.rows ++ is.blanks); lines = is.begins.lines; header = is.begins.header }
 
 of_claim : (m s : ℕ) (text : List ℕ) (c : Statement) → IsWithin m s text c → (found : Outcome) → IsClaimOutcome c found → IsOutcome m s text found
 of_claim m s text c within (outcome.Holds d) is = subst (λ x. IsOutcome m s text (outcome.Holds x)) (sym is.0) (within, is.1, is.2)

@@ -22,8 +22,9 @@ IsOver m_max s_max h S number limit = (h.m ≤ m_max) × (s_max < h.s) × (numbe
 -- the text is an import text whose header has this part over its limit
 pub record IsOutside (m_max s_max : ℕ) (text : List ℕ) (name : Part) (number limit : ℕ) : Type 0 where
   pub header : Header
+  pub note : List ℕ
   pub digits : List ℕ
-  pub import : IsImport text header digits
+  pub import : IsImport text header note digits
   pub over : IsOver m_max s_max header name number limit
 
 -- the text makes this claim, whose system is within the limits

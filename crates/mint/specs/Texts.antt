@@ -9,7 +9,7 @@ use Rattle.mt_import.specs.declared.import_text.TheConstants.{MOST_BYTES}
 use Rattle.mt_import.specs.declared.refusals.FormRefused.{FormRefused}
 use Rattle.mt_import.specs.declared.refusals.FormRefused.TheVariants.{TooLong, Line}
 use Rattle.mt_import.specs.declared.refusals.Wanted.{Wanted}
-use Rattle.mt_import.specs.declared.refusals.Wanted.TheVariants.{Header, Row, Blank}
+use Rattle.mt_import.specs.declared.refusals.Wanted.TheVariants.{Header, Source, Row, Blank}
 use Rattle.mt_cells.specs.Texts.{part_text}
 use Rattle.mint.specs.declared.checks.TheConstants.{MOST_CHOICES}
 use Rattle.mint.specs.declared.checks.Outcome.{Outcome}
@@ -21,6 +21,7 @@ usage_text = codes "usage: mint STORE FEED M,S COMMAND\n"
 -- what a refused line is not
 abbrev pub wanted_text : Wanted → List ℕ
 wanted_text Header = codes " is no header\n"
+wanted_text Source = codes " is no source\n"
 wanted_text Row = codes " is no row\n"
 wanted_text Blank = codes " is not blank\n"
 
@@ -51,4 +52,4 @@ outcome_text (outcome.Dependent form part choice coefficients) =
 
 -- the import text of the system under the name `niederreiter`, with the sequence strength u
 abbrev pub sequence_text : ℕ → Matrices → List ℕ
-sequence_text u system = canonical_text (record { form = Seq; name = codes "niederreiter"; k = u; system = system })
+sequence_text u system = canonical_text (record { form = Seq; name = codes "niederreiter"; note = []; k = u; system = system })

@@ -387,7 +387,7 @@ fn claims_over_a_limit(rt: HostRuntime) -> Result<(), Fail> {
 
 #[test]
 fn rows_of_a_hostile_user(rt: HostRuntime) -> Result<(), Fail> {
-    let cases: [(&[(&[u8], usize)], &[u8]); 10] = [
+    let cases: [(&[(&[u8], usize)], &[u8]); 12] = [
         (
             &[(b"ooa 2 999 1 1 2 big\n", 1), (b"1", 998)],
             b"refused: line 2 is no row\n",
@@ -415,6 +415,14 @@ fn rows_of_a_hostile_user(rt: HostRuntime) -> Result<(), Fail> {
         ),
         (&[(b"ooa 2 2 1 1 2 one\r\n10", 1)], b"holds one\n"),
         (&[(ONE, 1), (b" \t\r\n", 9), (b" ", 3)], b"holds one\n"),
+        (
+            &[(b"ooa 2 2 1 1 2 one\nsource by hand\n10\n", 1)],
+            b"holds one\n",
+        ),
+        (
+            &[(b"ooa 2 2 1 1 2 one\nsourcex\n10\n", 1)],
+            b"refused: line 2 is no source\n",
+        ),
         (
             &[(ONE, 1), (b"\n", 2), (b"x", 1)],
             b"refused: line 5 is not blank\n",

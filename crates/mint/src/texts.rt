@@ -54,6 +54,7 @@ fn form_line(alloc: Global, refused: FormRefused) -> Result<Vec<u8>, AllocError>
     push_number(alloc, &mut text, line as u64)?;
     text.extend_from_slice(match wanted {
         Wanted::Header => b" is no header\n",
+        Wanted::Source => b" is no source\n",
         Wanted::Row => b" is no row\n",
         Wanted::Blank => b" is not blank\n",
     })?;

@@ -93,4 +93,4 @@ form_of Seq = form.Seq
 
 -- the import text of the system under the name `mint`, with the strength k
 abbrev pub matrix_text : Kind → ℕ → Matrices → List ℕ
-matrix_text kind k system = canonical_text (record { form = form_of kind; name = codes "mint"; k = k; system = system })
+matrix_text kind k system = canonical_text (record { form = form_of kind; name = codes "mint"; note = []; k = k; system = system })

@@ -115,6 +115,7 @@ fn copied(claim: &Claim, room: Vec<u8>) -> Checked
     Checked::known(Claim {
         form: claim.form,
         name: claim.name,
+        note: claim.note,
         k: claim.k,
         system: System::of_elements(order, m, s, depth, digits),
     })

@@ -1,4 +1,4 @@
-use Rattle.std.proofs.Common.{◌≡◌, codes, ap, ◌∙◌, subst}
+use Rattle.std.proofs.Common.{◌≡◌, [], codes, ap, ◌∙◌, subst}
 use Rattle.std.proofs.lemmas.Result.{IfOk-weaker}
 use Rattle.mt_system.specs.Claims.{IsClaim}
 use Rattle.mt_system.specs.Statements.{statement_of}
@@ -39,7 +39,7 @@ returns c =
     let s = c.node_of-n.ensures.served in
     let built : IsBuilt t.nodes.list t.list c.node_of-n.result c.in_ok-system.system = rw (c.nodes-nodes.ensures.value, c.imports.ensures.list) at c.in_ok-system.ensures in
     let same : s.node ≡ c.get.result = place_same t.nodes.list c.node_of-n.result s.node c.get.result s.place (rw c.nodes-nodes.ensures.value at c.get.ensures.place) in
-    let told : statement_of c.in-Some-new.claim ≡ record { form = form_of a.kind; name = codes "mint"; k = s.node.k; system = c.in_ok-system.system } =
-    cc (c.in-Some-new.ensures.form, c.form_of.ensures, c.in-Some-new.ensures.name, c.in-Some.ensures.value, c.in-Some-new.ensures.strength, same, c.in-Some-new.ensures.system) in
+    let told : statement_of c.in-Some-new.claim ≡ record { form = form_of a.kind; name = codes "mint"; note = []; k = s.node.k; system = c.in_ok-system.system } =
+    cc (c.in-Some-new.ensures.form, c.form_of.ensures, c.in-Some-new.ensures.name, c.in-Some.ensures.value, c.in-Some-new.ensures.note, c.in-Some-new.ensures.strength, same, c.in-Some-new.ensures.system) in
     IfOk-weaker c.print_import.result _ (λ text. IsMatrixText t a c.args.cell text.items)
     (λ text e. matrix_answer t a c.args.cell c.node_of-n.result c.in_ok-system.system text.items c.node_of-n.ensures.place s built (e ∙ ap canonical_text told)) c.print_import.ensures.text
