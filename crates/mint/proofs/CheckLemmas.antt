@@ -1,15 +1,10 @@
 -- What is found of a text, from what is found of its claim.
-use Rattle.std.proofs.Common.{ℕ, ◌++◌, List, sym, subst}
+use Rattle.std.proofs.Common.{ℕ, List, sym, subst}
 use Rattle.std.specs.Prelude.{Result, Ok, Err, IfOk}
 use Rattle.mt_system.specs.Statements.{Statement}
-use Rattle.mt_import.specs.declared.headers.Header.{Header}
-use Rattle.mt_import.specs.Texts.{HasHeader, IsImport}
 use Rattle.mint.specs.declared.checks.Outcome.{Outcome}
 use Rattle.mint.specs.declared.checks.Outcome.TheVariants as outcome
 use Rattle.mint.specs.Outcomes.{IsWithin, IsOutcome, IsClaimOutcome}
-
-pub HasHeader-import : (text : List ℕ) (h : Header) (note digits : List ℕ) → IsImport text h note digits → HasHeader text h
-HasHeader-import text h note digits is = record { line = is.begins.first; others = is.source ++ (is.rows ++ is.blanks); lines = is.begins.lines; header = is.begins.header }
 
 of_claim : (m s : ℕ) (text : List ℕ) (c : Statement) → IsWithin m s text c → (found : Outcome) → IsClaimOutcome c found → IsOutcome m s text found
 of_claim m s text c within (outcome.Holds d) is = subst (λ x. IsOutcome m s text (outcome.Holds x)) (sym is.0) (within, is.1, is.2)

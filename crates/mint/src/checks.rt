@@ -4,7 +4,7 @@ ghost use Rattle.mint.specs.Outcomes.{IsOver, IsOutcome, IsClaimOutcome};
 ghost use Rattle.mt_system.specs.Statements.{statement_of};
 
 use mt_cells::{Bounds, Part};
-use mt_import::{FormRefused, Header, ImportRefused, in_grammar, read_header, read_import};
+use mt_import::{FormRefused, Header, ImportText};
 use mt_linear::Vector;
 use mt_strength::{Checked, Tested, choices_of};
 use mt_system::{Choice, Claim, Form};
@@ -46,24 +46,18 @@ pub enum Outcome {
 pub fn check_text(alloc: Global, bounds: Bounds, text: &[u8]) -> Result<Outcome, AllocError>
     ensures { IfOk result (IsOutcome bounds.m_max bounds.s_max text.now) }
 {
-    if let Err(refused) = in_grammar(text) {
-        return Ok(Outcome::Form(refused));
-    }
-    let Some(header) = read_header(text) else {
-        unreachable!()
+    let import = match ImportText::of(text) {
+        Ok(import) => import,
+        Err(refused) => return Ok(Outcome::Form(refused)),
     };
-    if let Some((name, number, limit)) = size_over(&header, bounds) {
+    if let Some((name, number, limit)) = size_over(&import.header(), bounds) {
         return Ok(Outcome::Range {
             name,
             number,
             limit,
         });
     }
-    match read_import(alloc, text) {
-        Ok(claim) => check_claim(alloc, claim),
-        Err(ImportRefused::Form(refused)) => Ok(Outcome::Form(refused)),
-        Err(ImportRefused::Memory) => Err(AllocError),
-    }
+    check_claim(alloc, import.claim(alloc)?)
 }
 
 // The first size of the header that is over its limit, its number and the limit.
