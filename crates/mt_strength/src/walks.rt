@@ -1,11 +1,11 @@
 // The walk over all choices in the order of their lists, each decided by the rows that are left.
-ghost use Rattle.std.specs.Prelude.{◌≡◌, ◌≢◌, ℕ, ◌+◌, ◌*◌, ◌-◌, ◌<◌, ◌≤◌, length, slice_index, [], MatchOption};
+ghost use Rattle.std.specs.Prelude.{◌≡◌, ◌≢◌, ℕ, ◌+◌, ◌*◌, ◌-◌, ◌^◌, ◌<◌, ◌≤◌, length, drop, slice_index, [], MatchOption};
 ghost use Rattle.std.specs.Bool.{OnTrue, OnFalse};
 ghost use Rattle.mt_system.specs.Rows.{rows_by};
 ghost use Rattle.mt_strength.specs.Lanes.{row_at, IsLanes, digit_at};
 ghost use Rattle.mt_strength.specs.Pivots.{IsPivot, IsCleared};
 ghost use Rattle.mt_strength.specs.Searches.{AllIndependent, IsFound};
-ghost use Rattle.mt_strength.specs.Walks.{IsLaid, IsLeft, SomeLeft, NoneLeft, AreLeft, IsLastGone, OthersIndependent, digits_in};
+ghost use Rattle.mt_strength.specs.Walks.{IsLaid, IsLeft, SomeLeft, NoneLeft, AreLeft, IsLastGone, OthersIndependent, start_of, count_of, digits_in};
 
 use crate::byte_rows::{put_row, read_row};
 use crate::lanes::first_nonzero;
@@ -234,6 +234,32 @@ fn walk_first(
     false
 }
 
+// Where the rows of coordinate `i` begin.
+#[inline(always)]
+fn start(first: usize, each: usize, i: usize) -> usize
+    requires { start_of first each i < 2 ^ 64 }
+    ensures { result ≡ start_of first each i }
+{
+    if i == 0 { 0 } else { first + (i - 1) * each }
+}
+
+// The rows from coordinate `i` on.
+#[inline(always)]
+fn rows_from(rows: &[u8], first: usize, each: usize, i: usize) -> &[u8]
+    requires { 32 * start_of first each i ≤ length rows.now }
+    ensures { result.now ≡ drop (32 * start_of first each i) rows.now }
+{
+    &rows[32 * start(first, each, i)..]
+}
+
+// How many rows coordinate `i` has.
+#[inline(always)]
+fn count(first: usize, each: usize, i: usize) -> usize
+    ensures { result ≡ count_of first each i }
+{
+    if i == 0 { first } else { each }
+}
+
 // Whether each choice of at most `n` rows is independent. Else it writes the sizes of the first that
 // is not, by list.
 #[cycle(walking)]
@@ -260,23 +286,25 @@ pub fn walk(
     if n == 0 {
         return true;
     }
-    if others == 0 {
-        return walk_first(order, rows, first, others, each, n, sizes, room, all);
+    let mut i = others + 1;
+    while i > 0 {
+        i -= 1;
+        let rest = rows_from(rows, first, each, i);
+        let own = count(first, each, i);
+        if !walk_first(
+            order,
+            rest,
+            own,
+            others - i,
+            each,
+            n,
+            &mut sizes[i..],
+            room,
+            all,
+        ) {
+            sizes[..i].fill(0);
+            return false;
+        }
     }
-    let behind = &rows[32 * first..];
-    if !walk(
-        order,
-        behind,
-        each,
-        others - 1,
-        each,
-        n,
-        &mut sizes[1..],
-        room,
-        all,
-    ) {
-        sizes[0] = 0;
-        return false;
-    }
-    walk_first(order, rows, first, others, each, n, sizes, room, all)
+    true
 }
