@@ -54,9 +54,6 @@ digits_pass Q9 = refl
 pub digit-lane : (o : Order) (a : ℕ) → a < number_of o → digit_of o (lane_of o a) ≡ a
 digit-lane o a l = eqb-true _ _ (and_parts _ _ (all_below-at (number_of o) _ (digits_pass o) a l)).0
 
-pub lane_lt : (o : Order) (a : ℕ) → a < number_of o → lane_of o a < 32
-lane_lt o a l = ltb-true _ _ (and_parts _ _ (all_below-at (number_of o) _ (digits_pass o) a l)).1
-
 pub IsLane-lane : (o : Order) (a : ℕ) → a < number_of o → IsLane o (lane_of o a)
 IsLane-lane o a l = let e = digit-lane o a l in record { element = rw e l; lane = ap (lane_of o) e }
 

@@ -263,7 +263,7 @@ fn count(first: usize, each: usize, i: usize) -> usize
 // Whether each choice of at most `n` rows is independent. Else it writes the sizes of the first that
 // is not, by list.
 #[cycle(walking)]
-pub fn walk(
+pub(crate) fn walk(
     order: Order,
     rows: &[u8],
     first: usize,

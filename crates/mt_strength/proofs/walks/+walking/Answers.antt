@@ -52,9 +52,9 @@ walk-walk_first-requires t c =
                 (
                   let m = c.requires.multiples in omega arith,
                   subst (λ m. OthersIndependent o (rows_by (digits_in o c.rows_from-rest.result.now m c.args.each)) m (c.args.others - i) c.args.each c.args.n) (sym own)
-                  (subst (λ (r : List ℕ). OthersIndependent o (rows_by (digits_in o r (count_of c.args.first c.args.each i) c.args.each)) (count_of c.args.first c.args.each i) (c.args.others - i) c.args.each c.args.n) (sym rows)
-                  (others_suffix o c.args.rows.now c.args.first c.args.others c.args.each c.args.n i from
-                  (λ l. subst (λ m. AllIndependent o (rows_by (suffix M m)) (count_of c.args.first c.args.each m) (c.args.others - m) c.args.each c.args.n) next (c.loop-i.invariant.behind (omega arith))))),
+                      (subst (λ (r : List ℕ). OthersIndependent o (rows_by (digits_in o r (count_of c.args.first c.args.each i) c.args.each)) (count_of c.args.first c.args.each i) (c.args.others - i) c.args.each c.args.n) (sym rows)
+                      (others_suffix o c.args.rows.now c.args.first c.args.others c.args.each c.args.n i from
+                      (λ l. subst (λ m. AllIndependent o (rows_by (suffix M m)) (count_of c.args.first c.args.each m) (c.args.others - m) c.args.each c.args.n) next (c.loop-i.invariant.behind (omega arith))))),
                 ),
               ),
             ),
