@@ -16,7 +16,6 @@ use Rattle.mt_strength.specs.Walks.{IsLaid, digits_in}
 use Rattle.mt_strength.specs.FirstChoices.{IsLeastFound, AllChoicesIndependent, IsFirstChoice}
 use Rattle.mt_strength.specs.Searches.{AllIndependent}
 use Rattle.mt_strength.specs.PackedRows.{IsPacked}
-use Rattle.mt_strength.proofs.SumLemmas.{lane_zero}
 use Rattle.mt_strength.proofs.ByteLemmas.{IsLanes-by, digit_at-by, digit_past, digit_of_row}
 use Rattle.mt_strength.proofs.Clearing.{Zip-rows_by, SameDigits, Independent-digits}
 use Rattle.mt_strength.proofs.ClearedChoices.{inside, AllAtMost-min}

@@ -1,10 +1,9 @@
 -- The coordinates from one on, and the rows, the choices and the sizes of them.
-use Rattle.std.proofs.Common.{◌≡◌, ◌≢◌, ℕ, zero, suc, ◌+◌, ◌-◌, ◌*◌, ◌<◌, ◌≤◌, List, [], ◌∷◌, ◌++◌, length, take, drop, map, replicate, refl, sym, ap, ap₂, ◌∙◌, subst, arith, length-drop, length-append, append-nil}
-use Rattle.std.proofs.lemmas.List.{drop_at, drop_all, length-replicate, length-take-le}
+use Rattle.std.proofs.Common.{◌≡◌, ℕ, zero, suc, ◌+◌, ◌-◌, ◌*◌, ◌≤◌, List, [], ◌∷◌, ◌++◌, length, take, drop, map, replicate, refl, sym, ap, ap₂, ◌∙◌, subst, arith, length-drop, length-append, append-nil}
+use Rattle.std.proofs.lemmas.List.{drop_at, drop_all, length-take-le}
 use Rattle.std.proofs.Math.Nat.{mul-le-mul_right}
 use borrow.Rule.Slice.PartMut.{put_mid}
 use Rattle.mt_linear.specs.declared.order.Order.{Order}
-use Rattle.mt_linear.specs.Linear.{Independent}
 use Rattle.mt_linear.proofs.Reduction.{Independent-nil}
 use Rattle.mt_system.specs.Rows.{rows_by}
 use Rattle.mt_strength.specs.Lanes.{row_at, IsLanes, digit_of}

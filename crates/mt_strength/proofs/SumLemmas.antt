@@ -1,5 +1,5 @@
 -- The lanes of sums and products, by tests that are computed over all digits.
-use Rattle.std.proofs.Common.{◌≡◌, ℕ, ◌<◌, ◌&&◌, List, eqb, ltb, true, get_or, refl, sym, ap, ap₂, ◌∙◌, eqb-true, ltb-true, arith}
+use Rattle.std.proofs.Common.{◌≡◌, ℕ, ◌<◌, ◌&&◌, List, eqb, ltb, true, get_or, refl, sym, ap, ap₂, ◌∙◌, eqb-true, arith}
 use Rattle.mt_linear.specs.declared.order.Order.{Order}
 use Rattle.mt_linear.specs.declared.order.Order.TheVariants.{Q2, Q3, Q4, Q5, Q7, Q8, Q9}
 use Rattle.mt_linear.specs.Field.{number_of, prime_of, add_of, mul_of}

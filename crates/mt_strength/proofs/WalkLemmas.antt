@@ -1,20 +1,17 @@
 -- Choices with and without a row of the first coordinate, and the rows and the room that a walk hands on.
-use Rattle.std.proofs.Common.{◌≡◌, ◌≢◌, inl, Bool, true, false, ℕ, zero, suc, ◌+◌, ◌-◌, ◌*◌, ◌<◌, ◌≤◌, List, [], ◌∷◌, ◌++◌, length, get_or, take, drop, map, sym, ap, ◌∙◌, subst, arith, length-drop, append-nil}
-use Rattle.std.proofs.lemmas.List.{take_all, drop_all}
-use borrow.Rule.Slice.PartMut.{put_mid}
+use Rattle.std.proofs.Common.{◌≡◌, ◌≢◌, inl, ℕ, suc, ◌+◌, ◌-◌, ◌*◌, ◌<◌, ◌≤◌, List, [], ◌∷◌, length, get_or, take, drop, sym, ap, ◌∙◌, subst, arith, length-drop}
+use Rattle.std.proofs.lemmas.List.{take_all}
 use Rattle.std.proofs.Math.ListN.{set}
 use Rattle.std.proofs.Math.Nat.{mul-le-mul_left}
 use Rattle.mt_linear.specs.declared.order.Order.{Order}
 use Rattle.mt_linear.specs.Linear.{Independent}
 use Rattle.mt_linear.proofs.Reduction.{Independent-nil}
 use Rattle.mt_system.specs.Rows.{rows_by}
-use Rattle.std.specs.Bool.{OnTrue, OnFalse}
-use Rattle.mt_strength.specs.Lanes.{row_at, IsLanes, lane_of, digit_of, digit_at}
+use Rattle.mt_strength.specs.Lanes.{row_at, IsLanes, lane_of, digit_at}
 use Rattle.mt_strength.specs.Searches.{AllIndependent, IsFound}
 use Rattle.mt_strength.specs.Walks.{IsLaid, IsLeft, OthersIndependent, digits_in}
-use Rattle.mt_strength.proofs.ByteLemmas.{row_drop}
 use Rattle.mt_strength.proofs.ClearedChoices.{no_rows_taken}
-use Rattle.mt_strength.proofs.SearchLemmas.{raised, WithoutFirst-single, WithoutFirst-behind, AllIndependent-none, AllIndependent-both, IsFound-behind, IsFound-raised}
+use Rattle.mt_strength.proofs.SearchLemmas.{raised, AllIndependent-none, AllIndependent-both, IsFound-raised}
 use Rattle.mt_strength.proofs.SumLemmas.{lane_zero}
 
 -- no row of the first coordinate, or none at all

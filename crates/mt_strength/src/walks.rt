@@ -32,7 +32,8 @@ fn clear_run(
     requires at { 32 * (at + count) ≤ length next.old }
     requires lanes { (j : ℕ) → j < count → IsLanes order (row_at rows.now (from + j)) }
     ensures size { length next.new ≡ length next.old }
-    ensures done { (j : ℕ) → j < count → IsCleared order v place factor (row_at rows.now (from + j)) (row_at next.new (at + j)) }
+    ensures done { (j : ℕ) → j < count → IsCleared order v place factor
+        (row_at rows.now (from + j)) (row_at next.new (at + j)) }
     ensures before { (j : ℕ) → j < at → row_at next.new j ≡ row_at next.old j }
 {
     for j in 0..count {
@@ -42,7 +43,8 @@ fn clear_run(
     }
 }
 
-// Clears all rows that may follow: `kept` of the first coordinate behind its first row, and `width` of each other.
+// Clears all rows that may follow: `kept` of the first coordinate behind its first row, and `width`
+// of each other.
 fn clear_all(
     order: Order,
     place: usize,
@@ -167,9 +169,12 @@ fn walk_pairs(
     requires multiples { 288 ≤ length all.old }
     requires place { place < 32 }
     requires some_digit { digit_at order (row_at rows.now 0) place ≢ 0 }
-    requires others { OthersIndependent order (rows_by (digits_in order rows.now first each)) first others each 2 }
-    ensures independent { OnTrue result (AllIndependent order (rows_by (digits_in order rows.now first each)) first others each 2) }
-    ensures found { OnFalse result (IsFound order (rows_by (digits_in order rows.now first each)) first others each 2 sizes.new) }
+    requires others { OthersIndependent order
+        (rows_by (digits_in order rows.now first each)) first others each 2 }
+    ensures independent { OnTrue result (AllIndependent order
+        (rows_by (digits_in order rows.now first each)) first others each 2) }
+    ensures found { OnFalse result (IsFound order
+        (rows_by (digits_in order rows.now first each)) first others each 2 sizes.new) }
     ensures size { length sizes.new ≡ length sizes.old }
     ensures multiples { length all.new ≡ length all.old }
 {
@@ -202,9 +207,12 @@ fn walk_first(
     requires sizes { length sizes.old ≡ 1 + others }
     requires room { (n - 1) * length rows.now ≤ length room.old }
     requires multiples { 288 ≤ length all.old }
-    requires others { OthersIndependent order (rows_by (digits_in order rows.now first each)) first others each n }
-    ensures independent { OnTrue result (AllIndependent order (rows_by (digits_in order rows.now first each)) first others each n) }
-    ensures found { OnFalse result (IsFound order (rows_by (digits_in order rows.now first each)) first others each n sizes.new) }
+    requires others { OthersIndependent order
+        (rows_by (digits_in order rows.now first each)) first others each n }
+    ensures independent { OnTrue result (AllIndependent order
+        (rows_by (digits_in order rows.now first each)) first others each n) }
+    ensures found { OnFalse result (IsFound order
+        (rows_by (digits_in order rows.now first each)) first others each n sizes.new) }
     ensures size { length sizes.new ≡ length sizes.old }
 {
     if first == 0 {
@@ -260,8 +268,10 @@ fn count(first: usize, each: usize, i: usize) -> usize
     if i == 0 { first } else { each }
 }
 
-// Whether each choice of at most `n` rows is independent. Else it writes the sizes of the first that
-// is not, by list.
+// Whether each choice of at most `n` rows is independent. Else it writes the sizes of that with the
+// least list that is not.
+//
+// What is left of the rows, once a choice's first is cleared, goes to the front of `room`.
 #[cycle(walking)]
 pub(crate) fn walk(
     order: Order,
@@ -279,8 +289,10 @@ pub(crate) fn walk(
     requires sizes { length sizes.old ≡ 1 + others }
     requires room { (n - 1) * length rows.now ≤ length room.old }
     requires multiples { 288 ≤ length all.old }
-    ensures independent { OnTrue result (AllIndependent order (rows_by (digits_in order rows.now first each)) first others each n) }
-    ensures found { OnFalse result (IsFound order (rows_by (digits_in order rows.now first each)) first others each n sizes.new) }
+    ensures independent { OnTrue result (AllIndependent order
+        (rows_by (digits_in order rows.now first each)) first others each n) }
+    ensures found { OnFalse result (IsFound order
+        (rows_by (digits_in order rows.now first each)) first others each n sizes.new) }
     ensures size { length sizes.new ≡ length sizes.old }
 {
     if n == 0 {

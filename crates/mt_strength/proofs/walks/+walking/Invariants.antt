@@ -1,4 +1,4 @@
-use Rattle.std.proofs.Common.{◌≡◌, ◌+◌, ◌-◌, ◌*◌, ◌≤◌, length}
+use Rattle.std.proofs.Common.{◌+◌, ◌-◌, ◌*◌, ◌≤◌}
 use Rattle.mt_system.specs.Rows.{rows_by}
 use Rattle.mt_strength.specs.Searches.{AllIndependent}
 use Rattle.mt_strength.specs.Walks.{count_of, digits_in}

@@ -1,4 +1,4 @@
-use Rattle.std.proofs.Common.{◌*◌, List, drop, ap, ◌∙◌}
+use Rattle.std.proofs.Common.{◌*◌, drop, ap, ◌∙◌}
 use Rattle.mt_strength.proofs.WalkLemmas.{slice_behind}
 use Rattle.mt_strength.proofs.walks.rows_from.Goals as goal
 
