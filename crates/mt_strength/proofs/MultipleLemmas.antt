@@ -109,12 +109,3 @@ more_multiples o v w old new passed before done each h c m =
       | inl e ↦ rw e (rw done h)
       | inr ne ↦ rw (before c (omega arith)) (each c (omega arith))
     ]
-
-pub order_small : (o : Order) → number_of o ≤ 9
-order_small Q2 = omega arith
-order_small Q3 = omega arith
-order_small Q4 = omega arith
-order_small Q5 = omega arith
-order_small Q7 = omega arith
-order_small Q8 = omega arith
-order_small Q9 = omega arith

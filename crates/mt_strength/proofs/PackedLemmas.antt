@@ -16,21 +16,10 @@ use Rattle.mt_strength.specs.Walks.{IsLaid, digits_in}
 use Rattle.mt_strength.specs.FirstChoices.{IsLeastFound, AllChoicesIndependent, IsFirstChoice}
 use Rattle.mt_strength.specs.Searches.{AllIndependent}
 use Rattle.mt_strength.specs.PackedRows.{IsPacked}
-use Rattle.mt_strength.proofs.SumLemmas.{lane_zero}
 use Rattle.mt_strength.proofs.ByteLemmas.{IsLanes-by, digit_at-by, digit_past, digit_of_row}
 use Rattle.mt_strength.proofs.Clearing.{Zip-rows_by, SameDigits, Independent-digits}
 use Rattle.mt_strength.proofs.ClearedChoices.{inside, AllAtMost-min}
 use Rattle.mt_strength.proofs.SearchLemmas.{Independent-whole, IsFirstByList-whole, Earlier-by_list}
-
-pub lanes_made : (o : Order) (lanes digits : List ℕ) (k : ℕ) → length lanes ≡ 32 → ((n : ℕ) → n < k → get_or lanes n 0 ≡ lane_of o (get_or digits n 0))
-    → ((n : ℕ) → k ≤ n → get_or lanes n 0 ≡ 0) → length digits ≤ k → HasLanes lanes (λ n. lane_of o (get_or digits n 0))
-lanes_made o lanes digits k size done rest all = record {
-  long = size;
-  each = λ n l. elim (cases_lt n k) [
-    | inl m ↦ done n m
-    | inr m ↦ rest n m ∙ sym (ap (lane_of o) (get_or_past digits n 0 (omega arith)) ∙ lane_zero o)
-  ];
-}
 
 -- one row more of coordinate i
 pub rows_put : (a : Matrices) (width each i j : ℕ) (old new v : List ℕ) → IsPacked a width each i old
@@ -121,13 +110,6 @@ AllElements-drop o v n h k = rw (get_or-drop n v k 0) (h (n + k))
 
 pub elements_of_rows : (a : Matrices) (width : ℕ) → AllElements a.order a.digits → (i j : ℕ) → AllElements a.order (part_rows a width i j)
 elements_of_rows a width h i j = AllElements-take a.order _ width (AllElements-take a.order _ a.columns (AllElements-drop a.order a.digits ((i * a.depth + j) * a.columns) h))
-
-pub room_fits : (len s each k : ℕ) → len ≡ 32 * (s * each) → s ≤ 255 → each ≤ 32 → k ≤ 32 → len * (k - 1) ≤ 8355840
-room_fits len s each k e l m n =
-    let a = mul-le-mul_right each l in
-    let b : len ≤ 261120 = omega arith in
-    let c = mul-le-mul_right (k - 1) b in
-    omega arith
 
 pub laid_packed : (a : Matrices) (o : Order) (width each s : ℕ) (rows items : List ℕ) → o ≡ a.order → rows ≡ items → s ≡ a.coordinates → 0 < s → IsPacked a width each a.coordinates items → length items ≡ 32 * (a.coordinates * each)
     → AllElements a.order a.digits → IsLaid o rows each (s - 1) each

@@ -1,5 +1,5 @@
 -- The lanes of sums and products, by tests that are computed over all digits.
-use Rattle.std.proofs.Common.{◌≡◌, ℕ, ◌<◌, ◌&&◌, List, eqb, ltb, true, get_or, refl, sym, ap, ap₂, ◌∙◌, eqb-true, ltb-true, arith}
+use Rattle.std.proofs.Common.{◌≡◌, ℕ, ◌<◌, ◌&&◌, List, eqb, ltb, true, get_or, refl, sym, ap, ap₂, ◌∙◌, eqb-true, arith}
 use Rattle.mt_linear.specs.declared.order.Order.{Order}
 use Rattle.mt_linear.specs.declared.order.Order.TheVariants.{Q2, Q3, Q4, Q5, Q7, Q8, Q9}
 use Rattle.mt_linear.specs.Field.{number_of, prime_of, add_of, mul_of}
@@ -53,9 +53,6 @@ digits_pass Q9 = refl
 
 pub digit-lane : (o : Order) (a : ℕ) → a < number_of o → digit_of o (lane_of o a) ≡ a
 digit-lane o a l = eqb-true _ _ (and_parts _ _ (all_below-at (number_of o) _ (digits_pass o) a l)).0
-
-pub lane_lt : (o : Order) (a : ℕ) → a < number_of o → lane_of o a < 32
-lane_lt o a l = ltb-true _ _ (and_parts _ _ (all_below-at (number_of o) _ (digits_pass o) a l)).1
 
 pub IsLane-lane : (o : Order) (a : ℕ) → a < number_of o → IsLane o (lane_of o a)
 IsLane-lane o a l = let e = digit-lane o a l in record { element = rw e l; lane = ap (lane_of o) e }

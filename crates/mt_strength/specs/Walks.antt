@@ -12,6 +12,15 @@ abbrev pub place_of : ℕ → ℕ → ℕ → ℕ → ℕ
 place_of first each zero j = j
 place_of first each (suc i) j = first + i * each + j
 
+-- where the rows of coordinate i begin, and how many they are
+abbrev pub start_of : ℕ → ℕ → ℕ → ℕ
+start_of first each zero = 0
+start_of first each (suc i) = first + i * each
+
+abbrev pub count_of : ℕ → ℕ → ℕ → ℕ
+count_of first each zero = first
+count_of first each (suc i) = each
+
 pub record IsLaid (o : Order) (rows : List ℕ) (first others each : ℕ) : Type 0 where
   pub size : length rows ≡ 32 * (first + others * each)
   pub of_first : (j : ℕ) → j < first → IsLanes o (row_at rows j)

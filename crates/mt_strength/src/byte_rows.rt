@@ -5,7 +5,7 @@ ghost use Rattle.mt_strength.specs.Lanes.{row_at};
 use std::simd::prelude::*;
 
 #[inline(always)]
-pub fn read_row(rows: &[u8], j: usize) -> u8x32
+pub(crate) fn read_row(rows: &[u8], j: usize) -> u8x32
     requires { 32 * j + 32 ≤ length rows.now }
     ensures { result ≡ row_at rows.now j }
 {
@@ -13,7 +13,7 @@ pub fn read_row(rows: &[u8], j: usize) -> u8x32
 }
 
 #[inline(always)]
-pub fn put_row(rows: &mut [u8], j: usize, v: u8x32)
+pub(crate) fn put_row(rows: &mut [u8], j: usize, v: u8x32)
     requires { 32 * j + 32 ≤ length rows.old }
     ensures size { length rows.new ≡ length rows.old }
     ensures done { row_at rows.new j ≡ v }

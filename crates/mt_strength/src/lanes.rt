@@ -66,10 +66,11 @@ fn turned_nine(v: u8x32) -> u8x32
 }
 
 #[inline(always)]
-pub fn added(order: Order, x: u8x32, y: u8x32) -> u8x32
+pub(crate) fn added(order: Order, x: u8x32, y: u8x32) -> u8x32
     requires x { IsLanes order x }
     requires y { IsLanes order y }
-    ensures { HasLanes result (λ k. lane_of order (add_of order (digit_at order x k) (digit_at order y k))) }
+    ensures { HasLanes result (λ k.
+        lane_of order (add_of order (digit_at order x k) (digit_at order y k))) }
 {
     match order {
         Order::Q2 | Order::Q4 | Order::Q8 => xored(x, y),
@@ -82,10 +83,11 @@ pub fn added(order: Order, x: u8x32, y: u8x32) -> u8x32
 
 // The products with `x`, over 4, 8 and 9.
 #[inline(always)]
-pub fn times_x(order: Order, v: u8x32) -> u8x32
+pub(crate) fn times_x(order: Order, v: u8x32) -> u8x32
     requires lanes { IsLanes order v }
     requires extension { prime_of order < number_of order }
-    ensures { HasLanes result (λ k. lane_of order (mul_of order (prime_of order) (digit_at order v k))) }
+    ensures { HasLanes result (λ k.
+        lane_of order (mul_of order (prime_of order) (digit_at order v k))) }
 {
     match order {
         Order::Q4 => doubled(v, 7),
@@ -97,8 +99,9 @@ pub fn times_x(order: Order, v: u8x32) -> u8x32
 
 // The place of the first lane that is not 0.
 #[inline(always)]
-pub fn first_nonzero(v: u8x32) -> Option<usize>
-    ensures { MatchOption result ((k : ℕ) → slice_index v k ≡ 0) (λ p. (p < 32) × (slice_index v p ≢ 0)) }
+pub(crate) fn first_nonzero(v: u8x32) -> Option<usize>
+    ensures { MatchOption result ((k : ℕ) → slice_index v k ≡ 0)
+        (λ p. (p < 32) × (slice_index v p ≢ 0)) }
 {
     let mask = v.simd_ne(u8x32::splat(0)).to_bitmask();
     if mask == 0 {

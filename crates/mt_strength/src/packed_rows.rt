@@ -33,7 +33,8 @@ fn lanes_of(order: Order, digits: &[u8]) -> u8x32
     u8x32::from_array(lanes)
 }
 
-// The first `width` digits of the first `each` rows of coordinate `i`, counted from 1, put behind those before.
+// Puts the first `width` digits of the first `each` rows of coordinate `i`, counted from 1, behind
+// those before.
 fn put_rows(system: &System, width: u8, each: u8, i: u8, rows: &mut [u8])
     requires narrow { width ≤ system.now.columns }
     requires lanes { width ≤ 32 }
@@ -63,7 +64,8 @@ pub(crate) fn packed(
     requires lanes { width ≤ 32 }
     requires few { each ≤ system.now.depth }
     ensures size { IfOk result (λ v. length v.items ≡ 32 * (system.now.coordinates * each)) }
-    ensures packed { IfOk result (λ v. IsPacked system.now width each system.now.coordinates v.items) }
+    ensures packed { IfOk result (λ v.
+        IsPacked system.now width each system.now.coordinates v.items) }
 {
     let mut rows = vec![in alloc; 0u8; 32 * (system.s() as usize * each as usize)]?;
     for i in 0..system.s() {

@@ -35,7 +35,7 @@ fn digit(order: Order, lane: u8) -> u8
 
 // Puts all multiples of `v`, each at its factor.
 #[inline(always)]
-pub fn fill_multiples(order: Order, v: u8x32, all: &mut [u8])
+pub(crate) fn fill_multiples(order: Order, v: u8x32, all: &mut [u8])
     requires lanes { IsLanes order v }
     requires room { 288 ≤ length all.old }
     ensures size { length all.new ≡ length all.old }
@@ -60,7 +60,7 @@ pub fn fill_multiples(order: Order, v: u8x32, all: &mut [u8])
 
 // With this factor the digit of `lane` is cleared.
 #[inline(always)]
-pub fn factor_of(order: Order, lane: u8) -> u8
+pub(crate) fn factor_of(order: Order, lane: u8) -> u8
     requires lane { IsLane order lane }
     requires some { digit_of order lane ≢ 0 }
     ensures { result ≡ neg_of order (inv_of order (digit_of order lane)) }
@@ -70,7 +70,7 @@ pub fn factor_of(order: Order, lane: u8) -> u8
 
 // The row less its part in `v`, where `lane` is the row's byte at the place.
 #[inline(always)]
-pub fn cleared(
+pub(crate) fn cleared(
     order: Order,
     v: u8x32,
     place: usize,

@@ -1,11 +1,11 @@
 // The walk over all choices in the order of their lists, each decided by the rows that are left.
-ghost use Rattle.std.specs.Prelude.{◌≡◌, ◌≢◌, ℕ, ◌+◌, ◌*◌, ◌-◌, ◌<◌, ◌≤◌, length, slice_index, [], MatchOption};
+ghost use Rattle.std.specs.Prelude.{◌≡◌, ◌≢◌, ℕ, ◌+◌, ◌*◌, ◌-◌, ◌^◌, ◌<◌, ◌≤◌, length, drop, slice_index, [], MatchOption};
 ghost use Rattle.std.specs.Bool.{OnTrue, OnFalse};
 ghost use Rattle.mt_system.specs.Rows.{rows_by};
 ghost use Rattle.mt_strength.specs.Lanes.{row_at, IsLanes, digit_at};
 ghost use Rattle.mt_strength.specs.Pivots.{IsPivot, IsCleared};
 ghost use Rattle.mt_strength.specs.Searches.{AllIndependent, IsFound};
-ghost use Rattle.mt_strength.specs.Walks.{IsLaid, IsLeft, SomeLeft, NoneLeft, AreLeft, IsLastGone, OthersIndependent, digits_in};
+ghost use Rattle.mt_strength.specs.Walks.{IsLaid, IsLeft, SomeLeft, NoneLeft, AreLeft, IsLastGone, OthersIndependent, start_of, count_of, digits_in};
 
 use crate::byte_rows::{put_row, read_row};
 use crate::lanes::first_nonzero;
@@ -32,7 +32,8 @@ fn clear_run(
     requires at { 32 * (at + count) ≤ length next.old }
     requires lanes { (j : ℕ) → j < count → IsLanes order (row_at rows.now (from + j)) }
     ensures size { length next.new ≡ length next.old }
-    ensures done { (j : ℕ) → j < count → IsCleared order v place factor (row_at rows.now (from + j)) (row_at next.new (at + j)) }
+    ensures done { (j : ℕ) → j < count → IsCleared order v place factor
+        (row_at rows.now (from + j)) (row_at next.new (at + j)) }
     ensures before { (j : ℕ) → j < at → row_at next.new j ≡ row_at next.old j }
 {
     for j in 0..count {
@@ -42,7 +43,8 @@ fn clear_run(
     }
 }
 
-// Clears all rows that may follow: `kept` of the first coordinate behind its first row, and `width` of each other.
+// Clears all rows that may follow: `kept` of the first coordinate behind its first row, and `width`
+// of each other.
 fn clear_all(
     order: Order,
     place: usize,
@@ -167,9 +169,12 @@ fn walk_pairs(
     requires multiples { 288 ≤ length all.old }
     requires place { place < 32 }
     requires some_digit { digit_at order (row_at rows.now 0) place ≢ 0 }
-    requires others { OthersIndependent order (rows_by (digits_in order rows.now first each)) first others each 2 }
-    ensures independent { OnTrue result (AllIndependent order (rows_by (digits_in order rows.now first each)) first others each 2) }
-    ensures found { OnFalse result (IsFound order (rows_by (digits_in order rows.now first each)) first others each 2 sizes.new) }
+    requires others { OthersIndependent order
+        (rows_by (digits_in order rows.now first each)) first others each 2 }
+    ensures independent { OnTrue result (AllIndependent order
+        (rows_by (digits_in order rows.now first each)) first others each 2) }
+    ensures found { OnFalse result (IsFound order
+        (rows_by (digits_in order rows.now first each)) first others each 2 sizes.new) }
     ensures size { length sizes.new ≡ length sizes.old }
     ensures multiples { length all.new ≡ length all.old }
 {
@@ -202,9 +207,12 @@ fn walk_first(
     requires sizes { length sizes.old ≡ 1 + others }
     requires room { (n - 1) * length rows.now ≤ length room.old }
     requires multiples { 288 ≤ length all.old }
-    requires others { OthersIndependent order (rows_by (digits_in order rows.now first each)) first others each n }
-    ensures independent { OnTrue result (AllIndependent order (rows_by (digits_in order rows.now first each)) first others each n) }
-    ensures found { OnFalse result (IsFound order (rows_by (digits_in order rows.now first each)) first others each n sizes.new) }
+    requires others { OthersIndependent order
+        (rows_by (digits_in order rows.now first each)) first others each n }
+    ensures independent { OnTrue result (AllIndependent order
+        (rows_by (digits_in order rows.now first each)) first others each n) }
+    ensures found { OnFalse result (IsFound order
+        (rows_by (digits_in order rows.now first each)) first others each n sizes.new) }
     ensures size { length sizes.new ≡ length sizes.old }
 {
     if first == 0 {
@@ -234,10 +242,38 @@ fn walk_first(
     false
 }
 
-// Whether each choice of at most `n` rows is independent. Else it writes the sizes of the first that
-// is not, by list.
+// Where the rows of coordinate `i` begin.
+#[inline(always)]
+fn start(first: usize, each: usize, i: usize) -> usize
+    requires { start_of first each i < 2 ^ 64 }
+    ensures { result ≡ start_of first each i }
+{
+    if i == 0 { 0 } else { first + (i - 1) * each }
+}
+
+// The rows from coordinate `i` on.
+#[inline(always)]
+fn rows_from(rows: &[u8], first: usize, each: usize, i: usize) -> &[u8]
+    requires { 32 * start_of first each i ≤ length rows.now }
+    ensures { result.now ≡ drop (32 * start_of first each i) rows.now }
+{
+    &rows[32 * start(first, each, i)..]
+}
+
+// How many rows coordinate `i` has.
+#[inline(always)]
+fn count(first: usize, each: usize, i: usize) -> usize
+    ensures { result ≡ count_of first each i }
+{
+    if i == 0 { first } else { each }
+}
+
+// Whether each choice of at most `n` rows is independent. Else it writes the sizes of that with the
+// least list that is not.
+//
+// What is left of the rows, once a choice's first is cleared, goes to the front of `room`.
 #[cycle(walking)]
-pub fn walk(
+pub(crate) fn walk(
     order: Order,
     rows: &[u8],
     first: usize,
@@ -253,30 +289,34 @@ pub fn walk(
     requires sizes { length sizes.old ≡ 1 + others }
     requires room { (n - 1) * length rows.now ≤ length room.old }
     requires multiples { 288 ≤ length all.old }
-    ensures independent { OnTrue result (AllIndependent order (rows_by (digits_in order rows.now first each)) first others each n) }
-    ensures found { OnFalse result (IsFound order (rows_by (digits_in order rows.now first each)) first others each n sizes.new) }
+    ensures independent { OnTrue result (AllIndependent order
+        (rows_by (digits_in order rows.now first each)) first others each n) }
+    ensures found { OnFalse result (IsFound order
+        (rows_by (digits_in order rows.now first each)) first others each n sizes.new) }
     ensures size { length sizes.new ≡ length sizes.old }
 {
     if n == 0 {
         return true;
     }
-    if others == 0 {
-        return walk_first(order, rows, first, others, each, n, sizes, room, all);
+    let mut i = others + 1;
+    while i > 0 {
+        i -= 1;
+        let rest = rows_from(rows, first, each, i);
+        let own = count(first, each, i);
+        if !walk_first(
+            order,
+            rest,
+            own,
+            others - i,
+            each,
+            n,
+            &mut sizes[i..],
+            room,
+            all,
+        ) {
+            sizes[..i].fill(0);
+            return false;
+        }
     }
-    let behind = &rows[32 * first..];
-    if !walk(
-        order,
-        behind,
-        each,
-        others - 1,
-        each,
-        n,
-        &mut sizes[1..],
-        room,
-        all,
-    ) {
-        sizes[0] = 0;
-        return false;
-    }
-    walk_first(order, rows, first, others, each, n, sizes, room, all)
+    true
 }

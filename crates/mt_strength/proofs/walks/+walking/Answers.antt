@@ -1,76 +1,60 @@
 use Rattle.std.proofs.Common.{◌≡◌, ℕ, suc, ◌+◌, ◌-◌, ◌*◌, ◌<◌, ◌≤◌, List, length, get_or, replicate, refl, sym, ap, ◌∙◌, arith, subst, length-drop}
 use Rattle.std.specs.Bool.{OnTrue}
+use Rattle.std.proofs.lemmas.List.{length-take-le}
 use Rattle.std.proofs.Math.ListN.{set}
+use borrow.Rule.Slice.PartMut.{put_mid}
 use Rattle.std.proofs.Math.Nat.{mul-le-mul_left}
 use Rattle.mt_system.specs.Rows.{rows_by}
 use Rattle.mt_strength.specs.Searches.{AllIndependent, IsFound}
-use Rattle.mt_strength.specs.Walks.{OthersIndependent, digits_in}
+use Rattle.mt_strength.specs.Walks.{OthersIndependent, start_of, count_of, digits_in}
 use Rattle.mt_strength.proofs.ClearedChoices.{all_one, all_left, found_left, zero_row}
 use Rattle.mt_strength.proofs.SearchLemmas.{raised, IsFound-one}
-use Rattle.mt_strength.proofs.WalkLemmas.{all_empty, all_others, all_raised, found_raised, others_behind, found_behind, IsLaid-left, IsLaid-behind, room_behind, room_left, slice_behind, digit_some, behind_written, length-behind}
+use Rattle.mt_strength.proofs.SuffixLemmas.{suffix, all_suffix, all_whole, others_suffix, found_suffix, start_within, IsLaid-suffix, written, length-written}
+use Rattle.mt_strength.proofs.WalkLemmas.{all_empty, all_others, all_raised, found_raised, IsLaid-left, room_behind, room_left, slice_behind, digit_some}
 use Rattle.mt_strength.proofs.walks.+walking.Goals as goal
 
 pub walk-returns-then-n-eq0-clause-independent : goal.walk-returns-then-n-eq0-clause-independent
 walk-returns-then-n-eq0-clause-independent t c = all_empty c.args.order (digits_in c.args.order c.args.rows.now c.args.first c.args.each) c.args.first c.args.others c.args.each c.args.n c.if-n-eq0.true
 
-pub walk-walk-requires : goal.walk-walk-requires
-walk-walk-requires t c =
-    let ne = c.if-others-eq0.false in
-    let some : 0 < c.args.others = omega arith in
-    let e = slice_behind c.args.rows.now (32 * c.args.first) in
-    let sizes = c.requires.sizes in
-    let tail = slice_behind c.args.sizes.now 1 in (
-      let d = c.decreases in omega arith,
-      (
-        rw e (IsLaid-behind c.args.order c.args.rows.now c.args.first c.args.others c.args.each some c.requires.laid),
-        (
-          c.requires.few,
-          (
-            rw tail (omega (arith, length-drop 1 c.args.sizes.now)),
-            (
-              rw e (room_behind c.args.rows.now c.args.first c.args.n (length c.args.room.now) c.requires.room),
-              c.requires.multiples,
-            ),
-          ),
-        ),
-      ),
-    )
+pub walk-rows_from-rest-requires : goal.walk-rows_from-rest-requires
+walk-rows_from-rest-requires t c =
+    let test = c.loop-i-test.true in
+    let within = c.loop-i.invariant.within in
+    start_within c.args.first c.args.others c.args.each (c.loop-i.i - 1) (length c.args.rows.now) (omega arith) c.requires.laid.size
 
-pub walk-returns-then-not-walk-clause-found : goal.walk-returns-then-not-walk-clause-found
-walk-returns-then-not-walk-clause-found t c =
-    let ne = c.if-others-eq0.false in
-    let some : 0 < c.args.others = omega arith in
-    let sizes = c.requires.sizes in
-    let e = slice_behind c.args.rows.now (32 * c.args.first) in
-    rw (behind_written c.args.sizes.now c.walk.new.sizes (omega arith))
-    (found_behind c.args.order c.args.rows.now c.args.first c.args.others c.args.each c.args.n c.walk.new.sizes some
-    (subst (λ (rows : List ℕ). IsFound c.args.order (rows_by (digits_in c.args.order rows c.args.each c.args.each)) c.args.each (c.args.others - 1) c.args.each c.args.n c.walk.new.sizes) e c.if-not-walk.ensures.found))
-
-pub walk-walk_first-requires-2 : goal.walk-walk_first-requires-2
-walk-walk_first-requires-2 t c =
+pub walk-walk_first-requires : goal.walk-walk_first-requires
+walk-walk_first-requires t c =
+    let o = c.args.order in
+    let i = c.loop-i.i - 1 in
+    let test = c.loop-i-test.true in
+    let within = c.loop-i.invariant.within in
+    let from : i ≤ c.args.others = omega arith in
     let none = c.if-n-eq0.false in
-    let ne = c.if-others-eq0.false in
-    let some : 0 < c.args.others = omega arith in
+    let rows = c.rows_from-rest.ensures in
+    let own = c.count-own.ensures in
     let sizes = c.requires.sizes in
-    let e = slice_behind c.args.rows.now (32 * c.args.first) in
-    let tail : length c.walk.new.sizes ≡ length c.args.sizes.now - 1 = c.if-not-walk.ensures.size ∙ ap length (slice_behind c.args.sizes.now 1) ∙ omega (arith, length-drop 1 c.args.sizes.now) in
-    let room = c.walk.auto.room in
-    let all = c.walk.auto.all in (
+    let same = c.loop-i.auto.sizes in
+    let room = c.loop-i.auto.room in
+    let all = c.loop-i.auto.all in
+    let M = digits_in o c.args.rows.now c.args.first c.args.each in
+    let next : c.loop-i.i ≡ suc i = omega arith in (
       let d = c.decreases in omega arith,
       (
-        c.requires.laid,
+        rw (rows, own) (IsLaid-suffix o c.args.rows.now c.args.first c.args.others c.args.each i from c.requires.laid),
         (
           omega arith,
           (
             c.requires.few,
             (
-              length-behind c.args.sizes.now c.walk.new.sizes (omega arith) tail ∙ sizes,
+              rw (slice_behind c.loop-i.sizes i) (omega (arith, length-drop i c.loop-i.sizes)),
               (
-                let h = c.requires.room in omega arith,
+                rw rows (room_behind c.args.rows.now (start_of c.args.first c.args.each i) c.args.n (length c.loop-i.room) (let h = c.requires.room in omega arith)),
                 (
                   let m = c.requires.multiples in omega arith,
-                  others_behind c.args.order c.args.rows.now c.args.first c.args.others c.args.each c.args.n some
-                      (subst (λ (rows : List ℕ). AllIndependent c.args.order (rows_by (digits_in c.args.order rows c.args.each c.args.each)) c.args.each (c.args.others - 1) c.args.each c.args.n) e c.if-not-walk.ensures.independent),
+                  subst (λ m. OthersIndependent o (rows_by (digits_in o c.rows_from-rest.result.now m c.args.each)) m (c.args.others - i) c.args.each c.args.n) (sym own)
+                      (subst (λ (r : List ℕ). OthersIndependent o (rows_by (digits_in o r (count_of c.args.first c.args.each i) c.args.each)) (count_of c.args.first c.args.each i) (c.args.others - i) c.args.each c.args.n) (sym rows)
+                      (others_suffix o c.args.rows.now c.args.first c.args.others c.args.each c.args.n i from
+                      (λ l. subst (λ m. AllIndependent o (rows_by (suffix M m)) (count_of c.args.first c.args.each m) (c.args.others - m) c.args.each c.args.n) next (c.loop-i.invariant.behind (omega arith))))),
                 ),
               ),
             ),
@@ -78,6 +62,43 @@ walk-walk_first-requires-2 t c =
         ),
       ),
     )
+
+pub walk-returns-then-not-walk_first-clause-found : goal.walk-returns-then-not-walk_first-clause-found
+walk-returns-then-not-walk_first-clause-found t c =
+    let o = c.args.order in
+    let i = c.loop-i.i - 1 in
+    let test = c.loop-i-test.true in
+    let within = c.loop-i.invariant.within in
+    let from : i ≤ c.args.others = omega arith in
+    let sizes = c.requires.sizes in
+    let same = c.loop-i.auto.sizes in
+    let shorter : i ≤ length c.loop-i.sizes = omega arith in
+    let long : length c.walk_first.new.sizes ≡ length c.loop-i.sizes - i = c.if-not-walk_first.ensures.size ∙ ap length (slice_behind c.loop-i.sizes i) ∙ omega (arith, length-drop i c.loop-i.sizes) in
+    let p = put_mid i (length c.loop-i.sizes - i) c.loop-i.sizes c.walk_first.new.sizes in
+    let zeros : c.fill.new.self ≡ replicate i 0 =
+    c.fill.ensures.after (λ y h. h) ∙ ap (λ n. replicate n 0) (length-take-le i p (let h = length-written c.loop-i.sizes c.walk_first.new.sizes i shorter long in omega arith)) in
+    subst (IsFound o (rows_by (digits_in o c.args.rows.now c.args.first c.args.each)) c.args.first c.args.others c.args.each c.args.n)
+    (sym (written c.loop-i.sizes c.fill.new.self c.walk_first.new.sizes i shorter zeros))
+    (found_suffix o c.args.rows.now c.args.first c.args.others c.args.each c.args.n i c.walk_first.new.sizes from
+    (subst (λ (r : List ℕ). IsFound o (rows_by (digits_in o r (count_of c.args.first c.args.each i) c.args.each)) (count_of c.args.first c.args.each i) (c.args.others - i) c.args.each c.args.n c.walk_first.new.sizes) c.rows_from-rest.ensures
+    (subst (λ m. IsFound o (rows_by (digits_in o c.rows_from-rest.result.now m c.args.each)) m (c.args.others - i) c.args.each c.args.n c.walk_first.new.sizes) c.count-own.ensures c.if-not-walk_first.ensures.found)))
+
+pub walk-loop-i-preserved : goal.walk-loop-i-preserved
+walk-loop-i-preserved t c =
+    let o = c.args.order in
+    let i = c.loop-i.i - 1 in
+    let within = c.loop-i.invariant.within in
+    record {
+      within = omega arith;
+      behind = λ l. all_suffix o c.args.rows.now c.args.first c.args.others c.args.each c.args.n i
+          (subst (λ (r : List ℕ). AllIndependent o (rows_by (digits_in o r (count_of c.args.first c.args.each i) c.args.each)) (count_of c.args.first c.args.each i) (c.args.others - i) c.args.each c.args.n) c.rows_from-rest.ensures
+          (subst (λ m. AllIndependent o (rows_by (digits_in o c.rows_from-rest.result.now m c.args.each)) m (c.args.others - i) c.args.each c.args.n) c.count-own.ensures c.if-not-walk_first.ensures.independent));
+    }
+
+pub walk-returns-clause-independent : goal.walk-returns-clause-independent
+walk-returns-clause-independent t c =
+    let test = c.loop-i-test.false in
+    all_whole c.args.order (digits_in c.args.order c.args.rows.now c.args.first c.args.each) c.args.first c.args.others c.args.each c.args.n c.loop-i.i (omega arith) (c.loop-i.invariant.behind (omega arith))
 
 pub walk_first-returns-then-first-eq0-clause-independent : goal.walk_first-returns-then-first-eq0-clause-independent
 walk_first-returns-then-first-eq0-clause-independent t c =
