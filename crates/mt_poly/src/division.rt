@@ -9,7 +9,7 @@ use mt_linear::Order;
 use std::alloc::{AllocError, Global};
 
 /// A quotient and the remainder, which is shorter than the divisor.
-#[derive(Drop)]
+#[derive(Debug, Drop)]
 pub struct DivRem {
     pub quotient: Poly,
     pub remainder: Poly,
@@ -35,7 +35,7 @@ pub fn div_rem(alloc: Global, a: &Poly, b: &Poly) -> Result<DivRem, AllocError>
 }
 
 // A quotient and a rest, with zeros at their ends.
-#[derive(Drop)]
+#[derive(Debug, Drop)]
 struct Divided {
     quotient: Vec<u8>,
     rest: Vec<u8>,

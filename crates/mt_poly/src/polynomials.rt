@@ -11,7 +11,7 @@ use std::marker::Model;
 
 /// A polynomial over the field of one order: its coefficients, the constant first. The last one is
 /// not 0; the zero polynomial has none.
-#[derive(Drop)]
+#[derive(Debug, Drop)]
 pub struct Poly {
     order: Order,
     coefficients: Vec<u8>,

@@ -14,7 +14,7 @@ use std::marker::Brand;
 use std::sync::ledger::{Blank, Ledger};
 
 /// What `check` found.
-#[derive(Drop)]
+#[derive(Debug, Drop)]
 pub enum Verdict {
     /// Every choice of at most `k` rows is independent.
     Holds,
