@@ -77,7 +77,7 @@ fn other_tables_get_the_usage(rt: HostRuntime) -> Result<(), Fail> {
         &["4,8", "table", "net", "2", "3"],
         &["4,8", "table", "2", "3", "1"],
         &["4,8", "tables", "2", "3"],
-        &["17,8", "export"],
+        &["21,8", "export"],
         &["4,8", "export", "2"],
         &["4,8", "exports"],
     ] {

@@ -97,6 +97,37 @@ fn bounds_hold_for_checks(rt: HostRuntime) -> Result<(), Fail> {
         answer.1.as_slice(),
         b"refused: m 16 is over 4\n".as_slice()
     );
+    let big = text_of(
+        rt.alloc(),
+        &[(b"net 2 21 2 0 big\n", 1), (b"000000000000000000000\n", 42)],
+    )?;
+    let answer = run(rt.alloc(), &["20,48", "check"], &big, 4096)?;
+    assert_eq!(rt; answer.0, Status::Refused);
+    assert_eq!(rt;
+        answer.1.as_slice(),
+        b"refused: m 21 is over 20\n".as_slice()
+    );
+    Ok(())
+}
+
+// The rows of caps7: seven points of which no three are on a line, with three more rows each.
+const CAPS: &[u8] = b"1001\n0001\n0010\n0000\n1010\n0010\n0001\n0000\n1011\n0011\n0001\n0000\n\
+1100\n0100\n0001\n0000\n1101\n0101\n0001\n0000\n1110\n0110\n0001\n0000\n1111\n0111\n0001\n0000\n";
+
+#[test]
+fn source_lines_are_read(rt: HostRuntime) -> Result<(), Fail> {
+    let header = b"net 2 4 7 1 caps7\n";
+    for (source, line) in [
+        (b"".as_slice(), b"holds caps7\n".as_slice()),
+        (b"source  Rows by hand \n", b"holds caps7\n"),
+        (b"source\n", b"refused: line 2 is no source\n"),
+        (b"sourcex\n", b"refused: line 2 is no source\n"),
+        (b"Source by hand\n", b"refused: line 2 is no row\n"),
+    ] {
+        let text = text_of(rt.alloc(), &[(header, 1), (source, 1), (CAPS, 1)])?;
+        let answer = run(rt.alloc(), &["4,8", "check"], &text, 7)?;
+        assert_eq!(rt; answer.1.as_slice(), line);
+    }
     Ok(())
 }
 
@@ -117,7 +148,11 @@ pub(crate) fn assert_answers(
 
 #[test]
 fn nets_get_their_values(rt: HostRuntime) -> Result<(), Fail> {
-    let cases: [(&[&str], &[u8]); 7] = [
+    let cases: [(&[&str], &[u8]); 8] = [
+        (
+            &["20,48", "value", "net", "2", "20", "3"],
+            b"net 2 20 3: k 20, t 0, since 0, version 0\n",
+        ),
         (
             &["4,8", "value", "net", "2", "3", "1"],
             b"net 2 3 1: k 3, t 0, since 0, version 0\n",
@@ -219,9 +254,9 @@ fn other_words_get_the_usage(rt: HostRuntime) -> Result<(), Fail> {
         &["16,32", "check", "now"],
         &["16,32", "Check"],
         &["0,8", "check"],
-        &["17,8", "check"],
+        &["21,8", "check"],
         &["4,0", "check"],
-        &["4,33", "check"],
+        &["4,49", "check"],
         &["04,8", "check"],
         &["4,08", "check"],
         &["+4,8", "check"],
@@ -364,7 +399,11 @@ fn headers_of_a_hostile_user(rt: HostRuntime) -> Result<(), Fail> {
 
 #[test]
 fn claims_over_a_limit(rt: HostRuntime) -> Result<(), Fail> {
-    let cases: [(&[(&[u8], usize)], &[u8]); 4] = [
+    let cases: [(&[(&[u8], usize)], &[u8]); 5] = [
+        (
+            &[(b"net 2 12 10 0 mid\n", 1), (b"000000000000\n", 120)],
+            b"refused: choice 0,0,0,0,0,0,0,0,0,1 depends with 1\n",
+        ),
         (
             &[(b"ooa 2 999 1 1 2 big\n", 1), (b"1", 999)],
             b"refused: m 255 is over 16\n",
@@ -379,7 +418,7 @@ fn claims_over_a_limit(rt: HostRuntime) -> Result<(), Fail> {
         ),
         (
             &[(b"net 2 16 16 0 wide\n", 1), (b"0000000000000000\n", 256)],
-            b"refused: 601080390 choices, more than 500000\n",
+            b"refused: 601080390 choices, more than 4000000\n",
         ),
     ];
     assert_lines(&rt, rt.alloc(), &cases)

@@ -19,8 +19,8 @@ fn cells_and_their_numbers(rt: HostRuntime) -> Result<(), Fail> {
     let least = Bounds::new(1, 1).ok_or("bounds")?;
     assert_eq!(rt; least.cells(), 14);
     let bounds = Bounds::new(MOST_COLUMNS as u64, MOST_COORDINATES as u64).ok_or("bounds")?;
-    assert_eq!(rt; bounds.cells(), 34048);
-    assert_eq!(rt; MOST_CELLS, 34048);
+    assert_eq!(rt; bounds.cells(), 77280);
+    assert_eq!(rt; MOST_CELLS, 77280);
     assert!(rt; Cell::of_number(bounds, MOST_CELLS).is_none());
     for n in 0..MOST_CELLS {
         let cell = Cell::of_number(bounds, n).ok_or("no cell")?;
