@@ -88,8 +88,8 @@ pub fn check(alloc: Global, system: &System, k: u8) -> Result<Verdict, AllocErro
 
 /// The greatest strength that the system has, up to its number of columns, `m`.
 ///
-/// Where each coordinate has `m` rows this is `m - t`, with the least quality `t` of the digital
-/// net (Niederreiter, 1987). It refuses only for want of memory.
+/// Where each coordinate has `m` rows this is `m - t`, with the least quality parameter `t` of the
+/// digital net (Niederreiter, 1987). It refuses only for want of memory.
 pub fn strength_of(alloc: Global, system: &System) -> Result<u8, AllocError>
     ensures { IfOk result (IsGreatestStrength system.now) }
 {
