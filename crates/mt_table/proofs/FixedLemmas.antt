@@ -60,11 +60,5 @@ served w L c f h =
       concluded = f.shown (place_in w c) x.0 x.1;
     }
 
-pub value_at : (b : Bounds) (rules : RuleSet) (L : List Entry) (values : List ℕ) (c : Cell) (v : ℕ) → AreValues b rules L (λ n. get_or values n 0) → InBounds b c → v ≡ get_or values (number b c) 0 → IsValue b rules L c v
-value_at b rules L values c v a h e = rw e (a c h)
-
-pub since_none : (b : Bounds) (rules : RuleSet) (L : List Entry) (c : Cell) → L ≡ [] → IsSince b rules L c 0
-since_none b rules L c e = rw e (record { within = omega arith; changed = λ h. absurd (omega arith); last = λ i h k x. absurd (omega arith) })
-
 pub sum_step : (f : ℕ → ℕ) (n : ℕ) → sum_to (n + 1) f ≡ sum_to n f + f n
 sum_step f n = rw add-one refl
