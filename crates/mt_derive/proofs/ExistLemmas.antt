@@ -1,5 +1,5 @@
 -- A tree that concludes a value over imports that hold, of whole systems, has a system.
-use Rattle.std.proofs.Common.{◌≡◌, ◌≢◌, ℕ, zero, suc, ◌+◌, ◌-◌, ◌<◌, ◌≤◌, ◌==◌, cond, ltb, inl, inr, List, [], ◌∷◌, length, slice_index, All, refl, sym, ◌∙◌, subst, arith}
+use Rattle.std.proofs.Common.{◌≢◌, ℕ, suc, ◌+◌, ◌-◌, ◌<◌, ◌≤◌, ◌==◌, cond, ltb, inl, inr, List, length, slice_index, refl, subst, arith}
 use Rattle.std.proofs.lemmas.Bool.{cases_lt}
 use Rattle.std.proofs.lemmas.List.{get_or_past, length-map}
 use Rattle.mt_linear.specs.declared.order.Order.{Order}

@@ -1,5 +1,5 @@
 -- There are Niederreiter's matrices of each coprime list.
-use Rattle.std.proofs.Common.{◌≡◌, ℕ, zero, suc, ◌+◌, ◌-◌, ◌*◌, ◌/◌, ◌%◌, ◌<◌, ◌≤◌, List, [], ◌∷◌, length, take, get_or, slice_index, All, inl, inr, refl, sym, ap, ap₂, ◌∙◌, subst, arith, drop, get_or-take, length-drop, mul_comm, suc-mul, mul-le-mul_right}
+use Rattle.std.proofs.Common.{◌≡◌, ℕ, zero, suc, ◌+◌, ◌-◌, ◌*◌, ◌/◌, ◌%◌, ◌<◌, ◌≤◌, List, [], ◌∷◌, length, take, get_or, slice_index, inl, inr, refl, sym, ap, ap₂, ◌∙◌, subst, arith, drop, get_or-take, length-drop, mul_comm, suc-mul, mul-le-mul_right}
 use Rattle.std.proofs.lemmas.Bool.{cases_eq, cond-true, cond-false, eq-eqb, ne_eqb}
 use Rattle.std.proofs.lemmas.Grind.{same_number_lists}
 use Rattle.std.proofs.lemmas.List.{length-take-le}
@@ -11,10 +11,10 @@ use Rattle.mt_linear.proofs.FieldLaws.{number_pos, one_below, add_lt}
 use Rattle.mt_linear.proofs.Abstract.{Ops, HasFieldLaws, Digit, digit, digit-of, digit-injective, field_of, field_laws, sum_of, sum_null, sum_cong, null_add, mul_null}
 use Rattle.mt_linear.proofs.Sums.{null_mul, sum_split}
 use Rattle.mt_system.specs.Rows.{Matrices, row_of}
-use Rattle.mt_system.specs.Digits.{unit, HasDigits}
+use Rattle.mt_system.specs.Digits.{HasDigits}
 use Rattle.mt_poly.specs.CoprimeLists.{IsCoprimeList}
 use Rattle.mt_poly.specs.Polynomials.{sum_to, IsPower, IsMonic, IsMember}
-use Rattle.mt_poly.proofs.Action.{poly_mul, poly_power, act, mark, mark_here, mark_else, act-terms}
+use Rattle.mt_poly.proofs.Action.{poly_mul, poly_power, mark, mark_here, mark_else, act-terms}
 use Rattle.mt_poly.proofs.Monic.{HasDegree, monic_power}
 use Rattle.mt_poly.proofs.PolynomialBridge.{elements, element_at, digit-sum_mul, digit-product_at, numbers_of, numbers_of_in, numbers_of_at, degree_lifted}
 use Rattle.mt_poly.proofs.CoprimeBridge.{power_lifted}

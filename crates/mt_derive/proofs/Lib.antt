@@ -11,3 +11,4 @@ pub mod ReadyLemmas
 pub mod BuildLemmas
 pub mod ConcludedLemmas
 pub mod ExistLemmas
+pub mod UniqueLemmas
