@@ -1,12 +1,10 @@
 -- Values of axioms, settled, are the greatest.
-use Rattle.std.proofs.Common.{◌≡◌, ℕ, ◌+◌, ◌≤◌, List, [], get_or, refl, arith, le_trans, add-one}
-use Rattle.mt_cells.specs.declared.bounds.Bounds.{Bounds}
+use Rattle.std.proofs.Common.{◌≡◌, ℕ, ◌+◌, ◌≤◌, List, [], refl, arith, le_trans, add-one}
 use Rattle.mt_cells.specs.declared.cells.Cell.{Cell}
-use Rattle.mt_cells.specs.declared.rules.RuleSet.{RuleSet}
 use Rattle.mt_cells.specs.Cells.{InBounds, number, cells_of}
 use Rattle.mt_derive.specs.Closed.{IsClosed}
-use Rattle.mt_derive.specs.Trees.{Axiom, Says, Entry, Tree, Concludes, IsValue}
-use Rattle.mt_derive.specs.Values.{AreValues, sum_to, IsSince}
+use Rattle.mt_derive.specs.Trees.{Axiom, Says, Tree, Concludes}
+use Rattle.mt_derive.specs.Values.{sum_to}
 use Rattle.mt_cells.proofs.CellLemmas.{number_below}
 use Rattle.mt_derive.proofs.TreeLemmas.{IsValue-closed}
 use Rattle.mt_table.specs.declared.work.Work.{Work}
