@@ -33,14 +33,7 @@ use Rattle.mt_derive.proofs.ReadyLemmas.{search, ready, pair_ready}
 
 -- the sizes of a cell's system
 sizes_of : (b : Bounds) (o : Order) (m s d : ℕ) → InBounds b (Ooa o m s d) → AreSizes m s d
-sizes_of b o m s d i = record {
-  columns_from = i.0;
-  columns_to = omega (arith, i.1, b.m_high);
-  coordinates_from = i.2;
-  coordinates_to = omega (arith, i.3, b.s_high);
-  depth_from = i.4;
-  depth_to = omega (arith, i.5, i.1, b.m_high);
-}
+sizes_of b o m s d i = (i.0, omega (arith, i.1, b.m_high), i.2, omega (arith, i.3, b.s_high), i.4, omega (arith, i.5, i.1, b.m_high))
 
 -- there is the system of an axiom that says a value of the cell
 axiom_exists : (b : Bounds) (x : Axiom) (c : Cell) (k : ℕ) → InBounds b c → Says x c k → (a : Matrices) × IsWhole a × IsAxiomSystem x c a
@@ -85,14 +78,7 @@ pivot_exists v (c, other) = elim (search v (suc c)) [
 fewer_exists : (p : Matrices) → IsWhole p → 2 ≤ p.coordinates → (a : Matrices) × IsWhole a × IsFewer p a
 fewer_exists p w r =
     whole_from_digits p.order p.columns (p.coordinates - 1) p.depth (digit_of p)
-    (record {
-      columns_from = w.columns_from;
-      columns_to = w.columns_to;
-      coordinates_from = omega arith;
-      coordinates_to = omega (arith, w.coordinates_to);
-      depth_from = w.depth_from;
-      depth_to = w.depth_to;
-    })
+    (w.columns_from, w.columns_to, omega arith, omega (arith, w.coordinates_to), w.depth_from, w.depth_to)
     (digit_in p w)
 
 -- there is the system that a rule makes of a parent on which it can be used
@@ -100,86 +86,37 @@ rule_exists : (r : Rule) (p : Matrices) → IsWhole p → IsReady r p → (a : M
 rule_exists Fewer p w r = fewer_exists p w r
 rule_exists Shallower p w r =
     whole_from_digits p.order p.columns p.coordinates (p.depth - 1) (digit_of p)
-    (record {
-      columns_from = w.columns_from;
-      columns_to = w.columns_to;
-      coordinates_from = w.coordinates_from;
-      coordinates_to = w.coordinates_to;
-      depth_from = omega arith;
-      depth_to = omega (arith, w.depth_to);
-    })
+    (w.columns_from, w.columns_to, w.coordinates_from, w.coordinates_to, omega arith, omega (arith, w.depth_to))
     (digit_in p w)
 rule_exists Deeper p w r =
     whole_from_digits p.order p.columns p.coordinates (suc p.depth) (λ i j c. cond (ltb j p.depth) (digit_of p i j c) 0)
-    (record {
-      columns_from = w.columns_from;
-      columns_to = w.columns_to;
-      coordinates_from = w.coordinates_from;
-      coordinates_to = w.coordinates_to;
-      depth_from = omega arith;
-      depth_to = omega arith;
-    })
+    (w.columns_from, w.columns_to, w.coordinates_from, w.coordinates_to, omega arith, omega arith)
     (λ i j c. cond_in (ltb j p.depth) _ 0 _ (digit_in p w i j c) (number_pos p.order))
 rule_exists Longer p w r =
     whole_from_digits p.order (suc p.columns) p.coordinates p.depth (λ i j c. cond (ltb c p.columns) (digit_of p i j c) 0)
-    (record {
-      columns_from = omega arith;
-      columns_to = omega arith;
-      coordinates_from = w.coordinates_from;
-      coordinates_to = w.coordinates_to;
-      depth_from = w.depth_from;
-      depth_to = w.depth_to;
-    })
+    (omega arith, omega arith, w.coordinates_from, w.coordinates_to, w.depth_from, w.depth_to)
     (λ i j c. cond_in (ltb c p.columns) _ 0 _ (digit_in p w i j c) (number_pos p.order))
 rule_exists QuotientKeep p w r =
     let x : (x : ℕ) × IsPivot (row_of p 0 0) x = pivot_exists (row_of p 0 0) r.2 in
     let made = whole_from_digits p.order (p.columns - 1) p.coordinates (p.depth - 1) (λ i j c. modulo_first p x.0 i (remaining_row i j) c)
-    (record {
-      columns_from = omega (arith, r.0);
-      columns_to = omega (arith, w.columns_to);
-      coordinates_from = w.coordinates_from;
-      coordinates_to = w.coordinates_to;
-      depth_from = omega (arith, r.1);
-      depth_to = omega (arith, w.depth_to);
-    })
+    (omega (arith, r.0), omega (arith, w.columns_to), w.coordinates_from, w.coordinates_to, omega (arith, r.1), omega (arith, w.depth_to))
     (λ i j c. add_lt p.order _ _) in
     (made.0, made.1, (x.0, x.1, made.2))
 rule_exists QuotientDrop p w r =
     let x : (x : ℕ) × IsPivot (row_of p 0 0) x = pivot_exists (row_of p 0 0) r.2 in
     let made = whole_from_digits p.order (p.columns - 1) (p.coordinates - 1) p.depth (λ i j c. modulo_first p x.0 (suc i) j c)
-    (record {
-      columns_from = omega (arith, r.0);
-      columns_to = omega (arith, w.columns_to);
-      coordinates_from = omega (arith, r.1);
-      coordinates_to = omega (arith, w.coordinates_to);
-      depth_from = w.depth_from;
-      depth_to = w.depth_to;
-    })
+    (omega (arith, r.0), omega (arith, w.columns_to), omega (arith, r.1), omega (arith, w.coordinates_to), w.depth_from, w.depth_to)
     (λ i j c. add_lt p.order _ _) in
     (made.0, made.1, (x.0, x.1, made.2))
 rule_exists SeqFewer p w r = fewer_exists p w r.0
 rule_exists SeqCut p w r =
     whole_from_digits p.order (p.columns - 1) p.coordinates (p.depth - 1) (digit_of p)
-    (record {
-      columns_from = omega (arith, r.0);
-      columns_to = omega (arith, w.columns_to);
-      coordinates_from = w.coordinates_from;
-      coordinates_to = w.coordinates_to;
-      depth_from = omega (arith, r.0, r.1);
-      depth_to = omega (arith, w.depth_to);
-    })
+    (omega (arith, r.0), omega (arith, w.columns_to), w.coordinates_from, w.coordinates_to, omega (arith, r.0, r.1), omega (arith, w.depth_to))
     (digit_in p w)
 rule_exists SeqToNet p w r =
     whole_from_digits p.order p.columns (suc p.coordinates) p.depth
     (λ i j c. cond (ltb i p.coordinates) (digit_of p i j c) (unit (p.columns - 1 - j) c))
-    (record {
-      columns_from = w.columns_from;
-      columns_to = w.columns_to;
-      coordinates_from = omega arith;
-      coordinates_to = omega (arith, r.0);
-      depth_from = w.depth_from;
-      depth_to = w.depth_to;
-    })
+    (w.columns_from, w.columns_to, omega arith, omega (arith, r.0), w.depth_from, w.depth_to)
     (λ i j c. cond_in (ltb i p.coordinates) _ _ _ (digit_in p w i j c) (unit_in p.order (p.columns - 1 - j) c))
 rule_exists r p w x = absurd x
 
@@ -187,14 +124,7 @@ rule_exists r p w x = absurd x
 
 -- the sizes of a system of two
 pair_sizes : (p q : Matrices) → IsWhole p → IsWhole q → FitTogether p q → AreSizes (p.columns + q.columns) (p.coordinates + q.coordinates) q.depth
-pair_sizes p q w u r = record {
-  columns_from = omega (arith, w.columns_from);
-  columns_to = omega (arith, r.2);
-  coordinates_from = omega (arith, w.coordinates_from);
-  coordinates_to = omega (arith, r.3);
-  depth_from = u.depth_from;
-  depth_to = u.depth_to;
-}
+pair_sizes p q w u r = (omega (arith, w.columns_from), omega (arith, r.2), omega (arith, w.coordinates_from), omega (arith, r.3), u.depth_from, u.depth_to)
 
 beside_in : (m : ℕ) (x y : ℕ → ℕ) (c n : ℕ) → x c < n → ((c : ℕ) → y c < n) → beside m x y c < n
 beside_in m x y c n h g = cond_in (ltb c m) (x c) (y (c - m)) n h (g (c - m))

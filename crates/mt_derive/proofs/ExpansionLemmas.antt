@@ -100,9 +100,6 @@ module _ (o : Order) where
           l : ℕ
           l = n - suc c
 
-          term : ℕ → ℕ
-          term i = mul_of o (slice_index D (c + 1 + i)) (slice_index terms i)
-
           small : sum_to o (n - c) (λ i. mul_of o (slice_index D (c + 1 + i)) (slice_index terms i)) < number_of o
           small =
               let e : suc (n - suc c) ≡ n - c = omega arith in

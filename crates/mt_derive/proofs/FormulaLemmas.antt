@@ -47,13 +47,8 @@ unit_in o n c = cond_in (c == n) 1 0 (number_of o) (one_below o) (number_pos o)
 -- ---- systems
 
 -- the sizes of a system
-pub record AreSizes (m s d : ℕ) : Type 0 where
-  pub columns_from : 1 ≤ m
-  pub columns_to : m ≤ 255
-  pub coordinates_from : 1 ≤ s
-  pub coordinates_to : s ≤ 255
-  pub depth_from : 1 ≤ d
-  pub depth_to : d ≤ 255
+abbrev pub AreSizes : ℕ → ℕ → ℕ → Type 0
+AreSizes m s d = (1 ≤ m) × (m ≤ 255) × (1 ≤ s) × (s ≤ 255) × (1 ≤ d) × (d ≤ 255)
 
 -- a formula whose values are elements gives the digits of a whole system
 pub whole_from_digits : (o : Order) (m s d : ℕ) (f : ℕ → ℕ → ℕ → ℕ) → AreSizes m s d → ((i j c : ℕ) → f i j c < number_of o)
@@ -61,12 +56,12 @@ pub whole_from_digits : (o : Order) (m s d : ℕ) (f : ℕ → ℕ → ℕ → �
 whole_from_digits o m s d f z h = (
   record { order = o; columns = m; coordinates = s; depth = d; digits = items },
   record {
-    columns_from = z.columns_from;
-    columns_to = z.columns_to;
-    coordinates_from = z.coordinates_from;
-    coordinates_to = z.coordinates_to;
-    depth_from = z.depth_from;
-    depth_to = z.depth_to;
+    columns_from = z.0;
+    columns_to = z.1;
+    coordinates_from = z.2;
+    coordinates_to = z.3;
+    depth_from = z.4;
+    depth_to = z.5;
     size = length_listed (s * d * m) (λ k. f (k / m / d) (k / m % d) (k % m));
     elements = listed_in o (s * d * m) (λ k. f (k / m / d) (k / m % d) (k % m)) (λ k. h (k / m / d) (k / m % d) (k % m));
   },
