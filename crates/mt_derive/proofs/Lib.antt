@@ -1,6 +1,8 @@
 pub mod TreeLemmas
 pub mod AxiomLemmas
 pub mod SoundLemmas
+pub mod FormulaLemmas
+pub mod ExpansionLemmas
 pub mod PlaceLemmas
 pub mod NodeLemmas
 pub mod MarkLemmas
@@ -8,3 +10,5 @@ pub mod FoundLemmas
 pub mod ReadyLemmas
 pub mod BuildLemmas
 pub mod ConcludedLemmas
+pub mod ExistLemmas
+pub mod UniqueLemmas

@@ -30,18 +30,21 @@ fn place_of(numbers: &[u32], number: u32) -> Option<usize>
 fn system_at<'a>(order: &[u32], systems: &'a [System], number: u32) -> &'a System
     requires few { length systems.now ≤ length order.now }
     requires place { (place : ℕ) × (place < length systems.now) × (get_or order.now place 0 ≡ number) }
-    ensures place { (place : ℕ) × (get_or order.now place 0 ≡ number) × IsAt systems.now place result.now }
-    ensures whole { IsWhole result.now }
+    ensures { (place : ℕ) × (get_or order.now place 0 ≡ number) × IsAt systems.now place result.now }
 {
     match place_of(&order[..systems.len()], number) {
-        Some(place) => {
-            let parent = &systems[place];
-            // it is a whole system
-            let _ = parent.order();
-            parent
-        }
+        Some(place) => &systems[place],
         None => unreachable!(),
     }
+}
+
+// The system, which is a whole one as any `System` is.
+fn whole(system: System) -> System
+    ensures same { result ≡ system }
+    ensures whole { IsWhole result }
+{
+    let _ = system.order();
+    system
 }
 
 // The system of a node, where those of the nodes before it in `order` are there.
@@ -62,14 +65,17 @@ fn system_of(
 {
     let node = nodes.get(number);
     match node.made {
-        Made::Import(n) => imports.get(n).system.copy(alloc),
-        Made::One(rule, parent) => made_by(alloc, rule, system_at(order, systems, parent)),
+        Made::Import(n) => Ok(whole(imports.get(n).system.copy(alloc)?)),
+        Made::One(rule, parent) => {
+            let parent = system_at(order, systems, parent);
+            Ok(whole(made_by(alloc, rule, parent)?))
+        }
         Made::Two(rule, first, second) => {
             let first = system_at(order, systems, first);
             let second = system_at(order, systems, second);
-            made_by_two(alloc, rule, first, second)
+            Ok(whole(made_by_two(alloc, rule, first, second)?))
         }
-        _ => axiom_system(alloc, node),
+        _ => Ok(whole(axiom_system(alloc, node)?)),
     }
 }
 

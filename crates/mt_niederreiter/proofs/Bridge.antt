@@ -88,7 +88,8 @@ module _ (o : Order) where
           | inr k ↦ recurrence_lifted l k h
         ]
 
-  row_lifted : (p : List ℕ) (e j m : ℕ) (r : List ℕ) → IsMonic p e → 0 < e → IsRow o p e j m r
+  -- the digits of a row of numbers are those of the row of elements
+  pub row_lifted : (p : List ℕ) (e j m : ℕ) (r : List ℕ) → IsMonic p e → 0 < e → IsRow o p e j m r
       → (c : ℕ) → c < m → digit o (slice_index r c) ≡ row F (elements o p) e j c
   row_lifted p e j m r monic positive x c h =
       ap (λ y. digit o (slice_index y c)) x.row_is

@@ -1,12 +1,10 @@
 -- Values of axioms, settled, are the greatest.
-use Rattle.std.proofs.Common.{◌≡◌, ℕ, ◌+◌, ◌≤◌, List, [], get_or, refl, arith, le_trans, add-one}
-use Rattle.mt_cells.specs.declared.bounds.Bounds.{Bounds}
+use Rattle.std.proofs.Common.{◌≡◌, ℕ, ◌+◌, ◌≤◌, List, [], refl, arith, le_trans, add-one}
 use Rattle.mt_cells.specs.declared.cells.Cell.{Cell}
-use Rattle.mt_cells.specs.declared.rules.RuleSet.{RuleSet}
 use Rattle.mt_cells.specs.Cells.{InBounds, number, cells_of}
 use Rattle.mt_derive.specs.Closed.{IsClosed}
-use Rattle.mt_derive.specs.Trees.{Axiom, Says, Entry, Tree, Concludes, IsValue}
-use Rattle.mt_derive.specs.Values.{AreValues, sum_to, IsSince}
+use Rattle.mt_derive.specs.Trees.{Axiom, Says, Tree, Concludes}
+use Rattle.mt_derive.specs.Values.{sum_to}
 use Rattle.mt_cells.proofs.CellLemmas.{number_below}
 use Rattle.mt_derive.proofs.TreeLemmas.{IsValue-closed}
 use Rattle.mt_table.specs.declared.work.Work.{Work}
@@ -59,12 +57,6 @@ served w L c f h =
       within = rw x.3 (value_within w c h);
       concluded = f.shown (place_in w c) x.0 x.1;
     }
-
-pub value_at : (b : Bounds) (rules : RuleSet) (L : List Entry) (values : List ℕ) (c : Cell) (v : ℕ) → AreValues b rules L (λ n. get_or values n 0) → InBounds b c → v ≡ get_or values (number b c) 0 → IsValue b rules L c v
-value_at b rules L values c v a h e = rw e (a c h)
-
-pub since_none : (b : Bounds) (rules : RuleSet) (L : List Entry) (c : Cell) → L ≡ [] → IsSince b rules L c 0
-since_none b rules L c e = rw e (record { within = omega arith; changed = λ h. absurd (omega arith); last = λ i h k x. absurd (omega arith) })
 
 pub sum_step : (f : ℕ → ℕ) (n : ℕ) → sum_to (n + 1) f ≡ sum_to n f + f n
 sum_step f n = rw add-one refl

@@ -21,9 +21,6 @@ use Rattle.mt_table.proofs.NodeLemmas.{node_concludes}
 
 -- ---- growth
 
-pub grows_refl : (v : Work) → Grows v v
-grows_refl v = record { bounds = refl; rules = refl; values = λ n. omega arith; flags = λ n h. h; changed = λ n. inl refl; rise = omega arith; shown = λ L h. h }
-
 pub grows_trans : (u v w : Work) → Grows u v → Grows v w → Grows u w
 grows_trans u v w a b = record {
   bounds = b.bounds ∙ a.bounds;
@@ -202,9 +199,6 @@ rises_step o v u w n r t g = record {
   values = λ k. le_trans (r.values k) (rw t.values at (g.values k));
   shown = λ L h. g.shown L (rw (t.bounds, t.rules, t.nodes) (r.shown L h));
 }
-
-pub rises_refl : (v : Work) → Rises v v
-rises_refl v = record { bounds = refl; rules = refl; values = λ n. omega arith; shown = λ L h. h }
 
 -- nothing waits any more
 pub settles : (o v w : Work) → AllSettled v → Rises o v → IsOver v w → Settles o w

@@ -1,5 +1,5 @@
 use Rattle.mt_derive.proofs.BuildLemmas.{system_found}
 use Rattle.mt_derive.proofs.node_system.system_at.Goals as goal
 
-pub returns-clause-place : goal.returns-clause-place
-returns-clause-place c = system_found _ _ c.in-Some.place _ _ c.index-systems-place.is c.in-Some.ensures.0 c.in-Some.ensures.1
+pub returns : goal.returns
+returns c = system_found _ _ c.in-Some.place _ _ c.index-systems-place.is c.in-Some.ensures.0 c.in-Some.ensures.1

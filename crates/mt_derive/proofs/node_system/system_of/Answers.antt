@@ -1,12 +1,11 @@
 use Rattle.std.proofs.Common.{◌≡◌, ◌-◌, take, sym, ap, ◌∙◌, subst, arith}
-use Rattle.std.proofs.lemmas.Result.{IfOk-weaker}
 use Rattle.mt_system.specs.Statements.{Statement, statement_of}
 use Rattle.mt_derive.specs.Trees.{Axiom}
 use Rattle.mt_derive.specs.declared.nodes.Node.{Node}
 use Rattle.mt_derive.specs.Places.{IsAt}
 use Rattle.mt_derive.specs.Imports.{IsImport, entry_of}
 use Rattle.mt_derive.specs.Nodes.{IsAxiomNode, IsRuleNode, IsPairNode, made_of}
-use Rattle.mt_derive.specs.Systems.{IsAxiomSystem, IsRuleSystem, IsPairSystem}
+use Rattle.mt_derive.specs.Systems.{IsWhole, IsAxiomSystem, IsRuleSystem, IsPairSystem}
 use Rattle.mt_derive.specs.Built.{IsKnown}
 use Rattle.mt_derive.proofs.PlaceLemmas.{place_below, place_same}
 use Rattle.mt_derive.proofs.NodeLemmas.{is_one, is_first, is_second}
@@ -22,8 +21,8 @@ get-requires-clause-to c =
     c.requires.shown c.in-Import.n c.get-node.result c.get-node.ensures.place c.in-Import.is in
     omega (arith, place_below c.args.imports.now.list (c.in-Import.n - 1) import.0 import.1.1, import.1.0)
 
-pub system_at-requires-clause-place : goal.system_at-requires-clause-place
-system_at-requires-clause-place c = parent_place c.args.nodes.now.list _ _ c.args.number c.get-node.result c.in-One.parent
+pub system_at-parent-requires-clause-place : goal.system_at-parent-requires-clause-place
+system_at-parent-requires-clause-place c = parent_place c.args.nodes.now.list _ _ c.args.number c.get-node.result c.in-One.parent
     c.requires.parent c.get-node.ensures.place c.get-node.ensures.right (is_one c.get-node.result _ _ c.in-One.is)
 
 pub system_at-first-requires-clause-place : goal.system_at-first-requires-clause-place
@@ -38,9 +37,9 @@ pub made_by-requires : goal.made_by-requires
 made_by-requires c =
     let x : (x : Node) × IsAt c.args.nodes.now.list c.in-One.parent x × IsRuleNode c.in-One.rule x c.get-node.result =
     parent_of c.args.nodes.now.list c.args.number c.get-node.result c.in-One.rule c.in-One.parent c.get-node.ensures.right c.in-One.is in
-    parent_ready c.args.nodes.now.list c.args.imports.now.list c.in-One.parent c.in-One.rule x.0 c.get-node.result c.system_at.result.now
-    x.1 x.2 c.system_at.ensures.whole
-    (parent_known _ _ c.args.order.now c.args.systems.now c.in-One.parent c.system_at.result.now c.requires.known c.system_at.ensures.place)
+    parent_ready c.args.nodes.now.list c.args.imports.now.list c.in-One.parent c.in-One.rule x.0 c.get-node.result c.system_at-parent.result.now
+    x.1 x.2
+    (parent_known _ _ c.args.order.now c.args.systems.now c.in-One.parent c.system_at-parent.result.now c.requires.known c.system_at-parent.ensures)
 
 pub made_by_two-requires : goal.made_by_two-requires
 made_by_two-requires c =
@@ -48,9 +47,9 @@ made_by_two-requires c =
     × IsPairNode c.in-Two.rule x y c.get-node.result =
     parents_of c.args.nodes.now.list c.args.number c.get-node.result c.in-Two.rule c.in-Two.first c.in-Two.second c.get-node.ensures.right c.in-Two.is in
     parents_ready c.args.nodes.now.list c.args.imports.now.list c.in-Two.first c.in-Two.second c.in-Two.rule x.0 x.1 c.get-node.result
-    c.system_at-first.result.now c.system_at-second.result.now x.2 x.3 x.4 c.system_at-first.ensures.whole c.system_at-second.ensures.whole
-    (parent_known _ _ c.args.order.now c.args.systems.now c.in-Two.first c.system_at-first.result.now c.requires.known c.system_at-first.ensures.place)
-    (parent_known _ _ c.args.order.now c.args.systems.now c.in-Two.second c.system_at-second.result.now c.requires.known c.system_at-second.ensures.place)
+    c.system_at-first.result.now c.system_at-second.result.now x.2 x.3 x.4
+    (parent_known _ _ c.args.order.now c.args.systems.now c.in-Two.first c.system_at-first.result.now c.requires.known c.system_at-first.ensures)
+    (parent_known _ _ c.args.order.now c.args.systems.now c.in-Two.second c.system_at-second.result.now c.requires.known c.system_at-second.ensures)
 
 pub axiom_system-requires : goal.axiom_system-requires
 axiom_system-requires c =
@@ -58,48 +57,46 @@ axiom_system-requires c =
     axiom_of (take c.args.number c.args.nodes.now.list) c.get-node.result c.get-node.ensures.right c.in_default.not-Import c.in_default.not-One c.in_default.not-Two in
     (c.get-node.ensures.right.0.0, c.get-node.ensures.right.0.1, x)
 
-pub returns-in-Import : goal.returns-in-Import
-returns-in-Import c =
+pub returns-in_ok-copy-in-Import : goal.returns-in_ok-copy-in-Import
+returns-in_ok-copy-in-Import c =
     let import : (x : Statement) × IsImport c.args.imports.now.list c.in-Import.n x × (entry_of x ≡ record { cell = c.get-node.result.cell; k = c.get-node.result.k }) =
     c.requires.shown c.in-Import.n c.get-node.result c.get-node.ensures.place c.in-Import.is in
     let same : import.0 ≡ statement_of c.get.result.now =
     place_same c.args.imports.now.list (c.in-Import.n - 1) import.0 (statement_of c.get.result.now) import.1.1 c.get.ensures.place.1 in
-    IfOk-weaker c.copy.result (λ a. a ≡ c.get.result.now.system) (IsKnown c.args.nodes.now.list c.args.imports.now.list c.args.number)
-    (λ a e. subst (λ z. IsKnown c.args.nodes.now.list c.args.imports.now.list c.args.number z) (sym e)
+    let copied : c.whole.result ≡ c.get.result.now.system = c.whole.ensures.same ∙ c.in_ok-copy-in-Import.ensures in
+    subst (λ z. IsKnown c.args.nodes.now.list c.args.imports.now.list c.args.number z) (sym copied)
     (import_known c.args.nodes.now.list c.args.imports.now.list c.args.number c.in-Import.n c.get-node.result (statement_of c.get.result.now)
-    c.get-node.ensures.place c.in-Import.is c.get.ensures.place (ap entry_of (sym same) ∙ import.2) c.get.result.now.is_claim c.get.ensures.holds))
-    c.copy.ensures
+    c.get-node.ensures.place c.in-Import.is c.get.ensures.place (ap entry_of (sym same) ∙ import.2) (subst IsWhole copied c.whole.ensures.whole)
+    c.get.result.now.is_claim c.get.ensures.holds)
 
-pub returns-in-One : goal.returns-in-One
-returns-in-One c =
+pub returns-in_ok-made_by-in-One : goal.returns-in_ok-made_by-in-One
+returns-in_ok-made_by-in-One c =
     let x : (x : Node) × IsAt c.args.nodes.now.list c.in-One.parent x × IsRuleNode c.in-One.rule x c.get-node.result =
     parent_of c.args.nodes.now.list c.args.number c.get-node.result c.in-One.rule c.in-One.parent c.get-node.ensures.right c.in-One.is in
-    IfOk-weaker c.made_by.result (IsRuleSystem c.in-One.rule c.system_at.result.now)
-    (IsKnown c.args.nodes.now.list c.args.imports.now.list c.args.number)
-    (λ b. rule_known c.args.nodes.now.list c.args.imports.now.list c.args.number c.in-One.parent c.in-One.rule x.0 c.get-node.result
-    c.system_at.result.now b c.get-node.ensures.place c.in-One.is x.1 x.2 c.system_at.ensures.whole
-    (parent_known _ _ c.args.order.now c.args.systems.now c.in-One.parent c.system_at.result.now c.requires.known c.system_at.ensures.place))
-    c.made_by.ensures
+    rule_known c.args.nodes.now.list c.args.imports.now.list c.args.number c.in-One.parent c.in-One.rule x.0 c.get-node.result
+    c.system_at-parent.result.now c.whole-in-One.result c.get-node.ensures.place c.in-One.is x.1 x.2
+    (parent_known _ _ c.args.order.now c.args.systems.now c.in-One.parent c.system_at-parent.result.now c.requires.known c.system_at-parent.ensures)
+    c.whole-in-One.ensures.whole
+    (subst (IsRuleSystem c.in-One.rule c.system_at-parent.result.now) (sym c.whole-in-One.ensures.same) c.in_ok-made_by-in-One.ensures)
 
-pub returns-in-Two : goal.returns-in-Two
-returns-in-Two c =
+pub returns-in_ok-made_by_two-in-Two : goal.returns-in_ok-made_by_two-in-Two
+returns-in_ok-made_by_two-in-Two c =
     let x : (x y : Node) × IsAt c.args.nodes.now.list c.in-Two.first x × IsAt c.args.nodes.now.list c.in-Two.second y
     × IsPairNode c.in-Two.rule x y c.get-node.result =
     parents_of c.args.nodes.now.list c.args.number c.get-node.result c.in-Two.rule c.in-Two.first c.in-Two.second c.get-node.ensures.right c.in-Two.is in
-    IfOk-weaker c.made_by_two.result (IsPairSystem c.in-Two.rule c.system_at-first.result.now c.system_at-second.result.now)
-    (IsKnown c.args.nodes.now.list c.args.imports.now.list c.args.number)
-    (λ a. pair_known c.args.nodes.now.list c.args.imports.now.list c.args.number c.in-Two.first c.in-Two.second c.in-Two.rule x.0 x.1 c.get-node.result
-    c.system_at-first.result.now c.system_at-second.result.now a c.get-node.ensures.place c.in-Two.is x.2 x.3 x.4
-    c.system_at-first.ensures.whole c.system_at-second.ensures.whole
-    (parent_known _ _ c.args.order.now c.args.systems.now c.in-Two.first c.system_at-first.result.now c.requires.known c.system_at-first.ensures.place)
-    (parent_known _ _ c.args.order.now c.args.systems.now c.in-Two.second c.system_at-second.result.now c.requires.known c.system_at-second.ensures.place))
-    c.made_by_two.ensures
+    pair_known c.args.nodes.now.list c.args.imports.now.list c.args.number c.in-Two.first c.in-Two.second c.in-Two.rule x.0 x.1 c.get-node.result
+    c.system_at-first.result.now c.system_at-second.result.now c.whole-in-Two.result c.get-node.ensures.place c.in-Two.is x.2 x.3 x.4
+    (parent_known _ _ c.args.order.now c.args.systems.now c.in-Two.first c.system_at-first.result.now c.requires.known c.system_at-first.ensures)
+    (parent_known _ _ c.args.order.now c.args.systems.now c.in-Two.second c.system_at-second.result.now c.requires.known c.system_at-second.ensures)
+    c.whole-in-Two.ensures.whole
+    (subst (IsPairSystem c.in-Two.rule c.system_at-first.result.now c.system_at-second.result.now) (sym c.whole-in-Two.ensures.same)
+    c.in_ok-made_by_two-in-Two.ensures)
 
-pub returns-in_default : goal.returns-in_default
-returns-in_default c =
+pub returns-in_ok-axiom_system-in_default : goal.returns-in_ok-axiom_system-in_default
+returns-in_ok-axiom_system-in_default c =
     let x : (x : Axiom) × IsAxiomNode x c.get-node.result × (c.get-node.result.made ≡ made_of x) =
     axiom_of (take c.args.number c.args.nodes.now.list) c.get-node.result c.get-node.ensures.right c.in_default.not-Import c.in_default.not-One c.in_default.not-Two in
-    IfOk-weaker c.axiom_system.result (IsAxiomSystem x.0 c.get-node.result.cell) (IsKnown c.args.nodes.now.list c.args.imports.now.list c.args.number)
-    (λ a made. axiom_known c.args.nodes.now.list c.args.imports.now.list c.args.number c.get-node.result x.0 c.get-node.ensures.right.0.0 a
-    c.get-node.ensures.place x.2 c.get-node.ensures.right.0.1 x.1 made)
-    (c.axiom_system.ensures x.0 x.2)
+    let made : IsAxiomSystem x.0 c.get-node.result.cell c.in_ok-axiom_system-in_default.field-0 = c.in_ok-axiom_system-in_default.ensures x.0 x.2 in
+    axiom_known c.args.nodes.now.list c.args.imports.now.list c.args.number c.get-node.result x.0 c.get-node.ensures.right.0.0 c.whole-in_default.result
+    c.get-node.ensures.place x.2 c.get-node.ensures.right.0.1 x.1 c.whole-in_default.ensures.whole
+    (subst (IsAxiomSystem x.0 c.get-node.result.cell) (sym c.whole-in_default.ensures.same) made)
