@@ -1,8 +1,9 @@
 -- How a command ends, from what it writes.
-use Rattle.std.proofs.Common.{◌≡◌, ◌≢◌, ◌⊎◌, inl, inr, ℕ, Bool, true, false, cond, List, ap, subst, sym, refl, arith}
-use Rattle.std.specs.Prelude.{Option}
+use Rattle.std.proofs.Common.{◌≡◌, ◌≢◌, ◌⊎◌, inl, inr, ℕ, List, ap, subst, sym, refl, arith}
+use Rattle.std.specs.Prelude.{Option, Some}
 use Rattle.mt_cells.specs.declared.bounds.Bounds.{Bounds}
-use Rattle.mt_cells.specs.declared.asks.Ask.{Ask}
+use Rattle.mt_cells.specs.declared.sizes.Sizes.{Sizes}
+use Rattle.mt_cells.specs.Asks.{sizes_of}
 use Rattle.mint.specs.declared.status.Status.{Status}
 use Rattle.mint.specs.declared.status.Status.TheVariants.{Ok, Memory, Words, Refused, ReadFault, WriteFault, Outside}
 use Rattle.mint.specs.declared.checks.Outcome.{Outcome}
@@ -11,7 +12,7 @@ use Rattle.mint.specs.declared.words.Task.{Task}
 use Rattle.mint.specs.declared.words.Task.TheVariants as task
 use Rattle.mint.specs.declared.words.Command.{Command}
 use Rattle.mint.specs.Output.{Wrote, WrotePrefix}
-use Rattle.mint.specs.Run.{outcome_status, sequence_ask, IsNiederreiter, Does, IsRun, IsDone, IsEnd}
+use Rattle.mint.specs.Run.{outcome_status, IsAnswer, IsAnswered, sequence_sizes, IsNiederreiter, Does, IsRun, IsDone, IsEnd}
 use Rattle.mint.specs.Statuses.{number_of_status}
 use Rattle.mint.specs.Words.{IsCommand}
 
@@ -44,19 +45,15 @@ of_outcome (outcome.Range name number limit) = inr (inl refl)
 of_outcome (outcome.TooManyChoices count) = inr (inl refl)
 of_outcome (outcome.Dependent form part choice coefficients) = inr (inl refl)
 
-of_answer : (b : Bool) → IsEnding (number_of_status (cond b Outside Ok))
-of_answer true = inr (inr refl)
-of_answer false = inl refl
-
-of_sequence : (b : Bounds) (a : Ask) (status : Status) (output : List ℕ) → IsNiederreiter b a status output → IsEnding (number_of_status status)
-of_sequence b a Ok output does = inl refl
-of_sequence b a Outside output does = inr (inr refl)
-of_sequence b a status output does = absurd does
+of_answer : (b : Bounds) (looked_at : Option Sizes) (P : List ℕ → Type 0) (status : Status) (output : List ℕ) → IsAnswer b looked_at P status output → IsEnding (number_of_status status)
+of_answer b looked_at P Ok output does = inl refl
+of_answer b looked_at P Outside output does = inr (inr refl)
+of_answer b looked_at P status output does = absurd does
 
 of_task : (b : Bounds) (t : Task) (before after : Option (List ℕ)) (status : Status) (output : List ℕ) → Does b t before after status output → IsEnding (number_of_status status)
 of_task b task.Check before after status output does = subst (λ (s : Status). IsEnding (number_of_status s)) (sym does.check.status_is) (of_outcome does.check.found)
-of_task b (task.Ask question) before after status output does = subst (λ (s : Status). IsEnding (number_of_status s)) (sym does.status_is) (of_answer does.text.outside)
-of_task b (task.Niederreiter q m s) before after status output does = of_sequence b (sequence_ask q m s) status output does
+of_task b (task.Ask question) before after status output does = of_answer b (sizes_of question) (IsAnswered b question) status output does
+of_task b (task.Niederreiter q m s) before after status output does = of_answer b (Some (sequence_sizes q m s)) (IsNiederreiter q m s) status output does
 
 not_ending : (n : ℕ) → n ≢ 0 → n ≢ 3 → n ≢ 8 → IsEnding n → ⊥
 not_ending n a b c e = elim e [ inl x ↦ a x | inr (inl x) ↦ b x | inr (inr x) ↦ c x ]

@@ -1,20 +1,18 @@
 -- What a command answers.
-use Rattle.std.specs.Prelude.{◌≡◌, ◌≢◌, ℕ, ◌-◌, true, List, [], cond, Option}
+use Rattle.std.specs.Prelude.{◌≡◌, ◌≢◌, ℕ, ◌-◌, true, List, [], Option, None, Some}
 use Rattle.mt_linear.specs.declared.order.Order.{Order}
+use Rattle.mt_linear.specs.Field.{number_of}
 use Rattle.mt_system.specs.Rows.{Matrices, SequenceStrength}
 use Rattle.mt_niederreiter.specs.Matrices.{IsMatricesOf, IsQuality}
 use Rattle.mt_cells.specs.declared.bounds.Bounds.{Bounds}
 use Rattle.mt_cells.specs.declared.rules.Rule.{Rule}
-use Rattle.mt_cells.specs.declared.cells.Cell.TheVariants.{Seq}
-use Rattle.mt_cells.specs.declared.asks.Ask.{Ask}
-use Rattle.mt_cells.specs.declared.asks.Kind.TheVariants as kind
 use Rattle.mt_cells.specs.declared.asks.Part.{Part}
 use Rattle.mt_cells.specs.declared.asks.Question.{Question}
-use Rattle.mt_cells.specs.Asks.{IsAsked, IsOutside}
+use Rattle.mt_cells.specs.declared.sizes.Sizes.{Sizes}
+use Rattle.mt_cells.specs.Asks.{sizes_of, IsInside, IsOutside}
 use Rattle.mt_cells.specs.Instances.{has_rule}
 use Rattle.mt_table.specs.Tables.{Contents}
-use Rattle.mt_answer.specs.declared.texts.Text.{Text}
-use Rattle.mt_answer.specs.Answers.{IsAnswer}
+use Rattle.mt_answer.specs.Answers.{IsTextFor}
 use Rattle.mt_answer.specs.Texts.{outside_line_text}
 use Rattle.mint.specs.declared.command.TheConstants.{MOST_READ}
 use Rattle.mint.specs.declared.status.Status.{Status}
@@ -51,20 +49,19 @@ pub record IsChecked (b : Bounds) (before after : Option (List ℕ)) (status : S
   pub input : IsInput MOST_READ before after text
   pub check : IsCheck b text status output
 
--- the status and the output for a question to a table of all rules, which has no imports
-pub record IsAnswered (b : Bounds) (question : Question) (status : Status) (output : List ℕ) : Type 0 where
+-- the status and the output where these sizes are looked at: the line for the first that is outside the bounds, or else a text of which P holds
+abbrev pub IsAnswer : Bounds → Option Sizes → (List ℕ → Type 0) → Status → List ℕ → Type 0
+IsAnswer b looked_at P Outside output = (name : Part) × (number : ℕ) × IsOutside b looked_at name number × (output ≡ outside_line_text name number)
+IsAnswer b looked_at P Ok output = IsInside b looked_at × P output
+IsAnswer b looked_at P status output = ⊥
+
+-- the text for a question to a table of all rules, which has no imports
+pub record IsAnswered (b : Bounds) (question : Question) (output : List ℕ) : Type 0 where
   pub table : Contents
   pub bounds : table.bounds ≡ b
   pub all : (rule : Rule) → has_rule table.rules rule ≡ true
   pub list : table.list ≡ []
-  pub text : Text
-  pub answer : IsAnswer table question text
-  pub status_is : status ≡ cond text.outside Outside Ok
-  pub output_is : output ≡ text.bytes.items
-
--- what Niederreiter's matrices are asked for by: a sequence
-abbrev pub sequence_ask : ℕ → ℕ → ℕ → Ask
-sequence_ask q m s = record { kind = kind.Seq; q = q; m = m; s = s; depth = 0 }
+  pub text : IsTextFor table question output
 
 -- the import text of Niederreiter's matrices, which claims their quality parameter, or m where that is less; they have it
 pub record IsSequenceText (o : Order) (m s : ℕ) (output : List ℕ) : Type 0 where
@@ -75,17 +72,18 @@ pub record IsSequenceText (o : Order) (m s : ℕ) (output : List ℕ) : Type 0 w
   pub strength : SequenceStrength system (m - t)
   pub output_is : output ≡ sequence_text (m - t) system
 
--- the status and the output for Niederreiter's matrices of these sizes
-abbrev pub IsNiederreiter : Bounds → Ask → Status → List ℕ → Type 0
-IsNiederreiter b a Ok output = (o : Order) × (m s : ℕ) × IsAsked b a (Seq o m s) × IsSequenceText o m s output
-IsNiederreiter b a Outside output = (name : Part) × (number : ℕ) × IsOutside b a name number × (output ≡ outside_line_text name number)
-IsNiederreiter b a status output = ⊥
+-- the text for Niederreiter's matrices of these sizes
+abbrev pub IsNiederreiter : ℕ → ℕ → ℕ → List ℕ → Type 0
+IsNiederreiter q m s output = (o : Order) × (number_of o ≡ q) × IsSequenceText o m s output
+
+abbrev pub sequence_sizes : ℕ → ℕ → ℕ → Sizes
+sequence_sizes q m s = record { q = q; m = m; s = Some s; depth = None }
 
 -- what a task does
 abbrev pub Does : Bounds → Task → Option (List ℕ) → Option (List ℕ) → Status → List ℕ → Type 0
 Does b task.Check before after status output = IsChecked b before after status output
-Does b (task.Ask question) before after status output = IsAnswered b question status output
-Does b (task.Niederreiter q m s) before after status output = IsNiederreiter b (sequence_ask q m s) status output
+Does b (task.Ask question) before after status output = IsAnswer b (sizes_of question) (IsAnswered b question) status output
+Does b (task.Niederreiter q m s) before after status output = IsAnswer b (Some (sequence_sizes q m s)) (IsNiederreiter q m s) status output
 
 -- the words are a command, which is done
 pub record IsDoneBy (words : List (List ℕ)) (before after : Option (List ℕ)) (status : Status) (output : List ℕ) : Type 0 where

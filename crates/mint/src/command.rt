@@ -1,11 +1,12 @@
 //! The top call.
-ghost use Rattle.std.specs.Prelude.{◌≡◌, ◌≢◌, ◌⊎◌, ℕ, ◌<◌, true, List, [], map, string_bytes, IfOk, OnOk, IsErrOf, if◌then◌else◌};
+ghost use Rattle.std.specs.Prelude.{◌≡◌, ◌≢◌, ◌⊎◌, ◌<◌, true, [], map, string_bytes, IfOk, IsErrOf};
 ghost use Rattle.mt_io.specs.Faults.{Rose};
 ghost use Rattle.mt_cells.specs.declared.rules.Rule.{Rule};
+ghost use Rattle.mt_cells.specs.Asks.{sizes_of};
 ghost use Rattle.mt_cells.specs.Instances.{has_rule};
 ghost use Rattle.mint.specs.Input.{IsInput, TakesAtMost};
 ghost use Rattle.mint.specs.Output.{Wrote, WrotePrefix};
-ghost use Rattle.mint.specs.Run.{outcome_status, IsCheck, IsChecked, IsAnswered, sequence_ask, IsNiederreiter, Does, AsksForNoCheck, IsEnd};
+ghost use Rattle.mint.specs.Run.{outcome_status, IsCheck, IsChecked, IsAnswer, IsAnswered, sequence_sizes, IsNiederreiter, Does, AsksForNoCheck, IsEnd};
 
 use crate::checks::{Outcome, check_text};
 use crate::input::{InputRefused, read_input};
@@ -14,9 +15,10 @@ use crate::status::Status;
 use crate::texts::{USAGE, outcome_line};
 use crate::words::{Command, Task, read_words};
 use mt_answer::{outside_line, text};
-use mt_cells::{Ask, Bounds, Cell, Kind, Question, RuleSet, Steps};
+use mt_cells::{Bounds, Question, RuleSet, Sizes, Steps};
 use mt_import::MOST_BYTES;
 use mt_io::{Failed, Sink, Source};
+use mt_linear::Order;
 use mt_table::Table;
 use std::alloc::{AllocError, Global};
 use std::marker::Brand;
@@ -32,7 +34,8 @@ pub const MOST_READ: usize = MOST_BYTES + 1;
 /// has for a cell, `M,S tree` and the same question a derivation with this value, and `M,S matrix`
 /// the generator matrices that it makes, as an import text. `M,S table` and `M,S export` write the
 /// values of many cells, and `M,S niederreiter` the generator matrices of a sequence, as an import
-/// text. All other words give the usage. Only `check` touches the input. What is written is written
+/// text. Where a number is outside the bounds, they write the first such number instead, and make no
+/// table. All other words give the usage. Only `check` touches the input. What is written is written
 /// once the answer is known.
 pub fn run_command<R: Source, W: Sink>(
     alloc: Global,
@@ -116,19 +119,25 @@ fn checked_text(alloc: Global, bounds: Bounds, text: &[u8]) -> Result<Answer, Al
     })
 }
 
-// The answer to a question, from a table made for it.
+// The answer to a question, from a table made for it, or the line for what is outside the bounds.
 fn answered(alloc: Global, bounds: Bounds, question: &Question) -> Result<Answer, AllocError>
-    ensures { IfOk result (λ a. IsAnswered bounds question.now a.status a.text.items) }
+    ensures { IfOk result (λ a. IsAnswer bounds (sizes_of question.now)
+        (IsAnswered bounds question.now) a.status a.text.items) }
 {
+    if let Some(outside) = question.outside(bounds) {
+        return Ok(Answer {
+            status: Status::Outside,
+            text: outside_line(alloc, outside)?,
+        });
+    }
     let table = table_of::<Brand>(alloc, bounds, Blank::new(1))?;
-    let found = text(alloc, &table, question)?;
     Ok(Answer {
-        status: answer_status(found.outside),
-        text: found.bytes,
+        status: Status::Ok,
+        text: text(alloc, &table, question)?,
     })
 }
 
-// The answer with Niederreiter's matrices.
+// The answer with Niederreiter's matrices, or the line for what is outside the bounds.
 fn sequence_made(
     alloc: Global,
     bounds: Bounds,
@@ -136,32 +145,26 @@ fn sequence_made(
     m: u64,
     s: u64,
 ) -> Result<Answer, AllocError>
-    ensures { IfOk result (λ a. IsNiederreiter bounds (sequence_ask q m s) a.status a.text.items) }
+    ensures { IfOk result (λ a. IsAnswer bounds (Some (sequence_sizes q m s))
+        (IsNiederreiter q m s) a.status a.text.items) }
 {
-    let ask = Ask {
-        kind: Kind::Seq,
+    let sizes = Sizes {
         q,
         m,
-        s,
-        depth: 0,
+        s: Some(s),
+        depth: None,
     };
-    match ask.cell(bounds) {
-        Ok(Cell::Seq { order, m, s }) => Ok(Answer {
-            status: Status::Ok,
-            text: sequence_lines(alloc, order, m, s)?,
-        }),
-        Ok(Cell::Ooa { .. }) => unreachable!(),
-        Err(outside) => Ok(Answer {
+    if let Some(outside) = sizes.outside(bounds) {
+        return Ok(Answer {
             status: Status::Outside,
             text: outside_line(alloc, outside)?,
-        }),
+        });
     }
-}
-
-fn answer_status(outside: bool) -> Status
-    ensures { result ≡ (if outside then Status.Outside else Status.Ok) }
-{
-    if outside { Status::Outside } else { Status::Ok }
+    let order = Order::of_number(q).unwrap();
+    Ok(Answer {
+        status: Status::Ok,
+        text: sequence_lines(alloc, order, m as u8, s as u8)?,
+    })
 }
 
 // The table of all rules, whose steps nobody counts.

@@ -104,9 +104,10 @@ fn all_matrices_hold(rt: HostRuntime) -> Result<(), Fail> {
     let table = table_of::<Brand>(alloc, bounds, Blank::new(1))?;
     for n in 0..bounds.cells() {
         let cell = Cell::at(bounds, n);
-        let served = text(alloc, &table, &Question::Matrix(ask_for(cell)))?;
-        assert!(rt; !served.outside);
-        let Outcome::Holds(checked) = check_text(alloc, bounds, &served.bytes)? else {
+        let question = Question::Matrix(ask_for(cell));
+        assert_eq!(rt; question.outside(bounds), None);
+        let served = text(alloc, &table, &question)?;
+        let Outcome::Holds(checked) = check_text(alloc, bounds, &served)? else {
             return Err("a served matrix does not hold")?;
         };
         assert_eq!(rt; checked.claim().k, table.value(cell));

@@ -1,17 +1,13 @@
 -- What a table answers.
 use Rattle.std.specs.Prelude.{◌≡◌, ℕ, List, length, Contains}
-use Rattle.std.specs.Bool.{MatchBool}
 use Rattle.mt_linear.specs.declared.order.Order.{Order}
 use Rattle.mt_linear.specs.Field.{number_of}
 use Rattle.mt_system.specs.Rows.{Matrices}
-use Rattle.mt_cells.specs.declared.bounds.Bounds.{Bounds}
 use Rattle.mt_cells.specs.declared.cells.Cell.{Cell}
 use Rattle.mt_cells.specs.declared.asks.Ask.{Ask}
-use Rattle.mt_cells.specs.declared.asks.Part.{Part}
 use Rattle.mt_cells.specs.declared.asks.Question.{Question}
 use Rattle.mt_cells.specs.declared.asks.Question.TheVariants.{Value, Tree, Matrix, Table, Export}
-use Rattle.mt_cells.specs.declared.asks.Part.TheVariants as part
-use Rattle.mt_cells.specs.Asks.{IsAsked, IsOutside, IsOrder, IsFrom1}
+use Rattle.mt_cells.specs.Asks.{IsAsked}
 use Rattle.mt_derive.specs.Trees.{IsValue}
 use Rattle.mt_derive.specs.Values.{IsSince}
 use Rattle.mt_derive.specs.declared.nodes.Node.{Node}
@@ -21,8 +17,7 @@ use Rattle.mt_derive.specs.Nodes.{AreReached}
 use Rattle.mt_derive.specs.Places.{IsAt}
 use Rattle.mt_derive.specs.Systems.{IsSystemOf, Has}
 use Rattle.mt_table.specs.Tables.{Contents, place_of, IsServed}
-use Rattle.mt_answer.specs.declared.texts.Text.{Text}
-use Rattle.mt_answer.specs.Texts.{value_text, outside_line_text, tree_text, matrix_text}
+use Rattle.mt_answer.specs.Texts.{value_text, tree_text, matrix_text}
 use Rattle.mt_answer.specs.Sheets.{IsTableText, IsExportText}
 
 -- the greatest value over the imports, and the last import that changed it
@@ -49,35 +44,10 @@ pub record IsMatrixText (t : Contents) (a : Ask) (c : Cell) (text : List ℕ) : 
   pub has : Has c system served.node.k
   pub text_is : text ≡ matrix_text a.kind served.node.k system
 
--- the text for a question within the bounds
+-- the text for a question, which is within the bounds
 abbrev pub IsTextFor : Contents → Question → List ℕ → Type 0
 IsTextFor t (Value a) text = (c : Cell) × IsAsked t.bounds a c × IsValueText t a c text
 IsTextFor t (Tree a) text = (c : Cell) × IsAsked t.bounds a c × IsTreeText t c text
 IsTextFor t (Matrix a) text = (c : Cell) × IsAsked t.bounds a c × IsMatrixText t a c text
-IsTextFor t (Table q m) text = (o : Order) × (number_of o ≡ q) × IsFrom1 t.bounds.m_max m × IsTableText t o m text
+IsTextFor t (Table q m) text = (o : Order) × (number_of o ≡ q) × IsTableText t o m text
 IsTextFor t Export text = IsExportText t text
-
--- the first of q and m that no cell has
-abbrev pub IsTableOutside : Bounds → ℕ → ℕ → Part → ℕ → Type 0
-IsTableOutside b q m part.Q number = (number ≡ q) × ¬ IsOrder q
-IsTableOutside b q m part.M number = (number ≡ m) × IsOrder q × ¬ IsFrom1 b.m_max m
-IsTableOutside b q m part.S number = ⊥
-IsTableOutside b q m part.Depth number = ⊥
-
--- the first part of the question that no cell has
-abbrev pub IsOutsideFor : Bounds → Question → Part → ℕ → Type 0
-IsOutsideFor b (Value a) name number = IsOutside b a name number
-IsOutsideFor b (Tree a) name number = IsOutside b a name number
-IsOutsideFor b (Matrix a) name number = IsOutside b a name number
-IsOutsideFor b (Table q m) name number = IsTableOutside b q m name number
-IsOutsideFor b Export name number = ⊥
-
--- the text for a question outside the bounds
-pub record IsOutsideText (b : Bounds) (question : Question) (text : List ℕ) : Type 0 where
-  pub name : Part
-  pub number : ℕ
-  pub outside : IsOutsideFor b question name number
-  pub text_is : text ≡ outside_line_text name number
-
-abbrev pub IsAnswer : Contents → Question → Text → Type 0
-IsAnswer t question text = MatchBool text.outside (IsOutsideText t.bounds question text.bytes.items) (IsTextFor t question text.bytes.items)

@@ -1,4 +1,3 @@
 pub mod Texts
 pub mod Sheets
 pub mod Answers
-pub mod Refusals

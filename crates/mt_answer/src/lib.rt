@@ -7,9 +7,7 @@ mod lines;
 mod matrices;
 mod sheets;
 mod tables;
-mod texts;
 mod trees;
 
 pub use answer::text;
 pub use lines::outside_line;
-pub use texts::Text;

@@ -1,5 +1,5 @@
--- Which cell a question asks for.
-use Rattle.std.specs.Prelude.{◌≡◌, ℕ, ◌≤◌, Result, Ok, Err}
+-- Which cell a question asks for, and what of it is outside the bounds.
+use Rattle.std.specs.Prelude.{◌≡◌, ℕ, ◌≤◌, Option, None, Some, IfSome, MatchOption}
 use Rattle.mt_linear.specs.declared.order.Order.{Order}
 use Rattle.mt_linear.specs.Field.{number_of}
 use Rattle.mt_cells.specs.declared.bounds.Bounds.{Bounds}
@@ -10,7 +10,9 @@ use Rattle.mt_cells.specs.declared.asks.Kind.TheVariants.{Net, Oa, Ooa, Seq}
 use Rattle.mt_cells.specs.declared.asks.Ask.{Ask}
 use Rattle.mt_cells.specs.declared.asks.Part.{Part}
 use Rattle.mt_cells.specs.declared.asks.Part.TheVariants as part
-use Rattle.mt_cells.specs.declared.asks.Outside.{Outside}
+use Rattle.mt_cells.specs.declared.asks.Question.{Question}
+use Rattle.mt_cells.specs.declared.asks.Question.TheVariants.{Value, Tree, Matrix, Table, Export}
+use Rattle.mt_cells.specs.declared.sizes.Sizes.{Sizes}
 use Rattle.mt_cells.specs.Cells.{InBounds}
 
 -- a net is an array of depth m, an orthogonal array one of depth 1
@@ -33,13 +35,44 @@ IsFrom1 limit n = (1 ≤ n) × (n ≤ limit)
 abbrev pub IsOrder : ℕ → Type 0
 IsOrder q = (o : Order) × (number_of o ≡ q)
 
--- the first of q, m, s and, for kind ooa, depth that no cell of the bounds has
-abbrev pub IsOutside : Bounds → Ask → Part → ℕ → Type 0
-IsOutside b a part.Q number = (number ≡ a.q) × ¬ IsOrder a.q
-IsOutside b a part.M number = (number ≡ a.m) × IsOrder a.q × ¬ IsFrom1 b.m_max a.m
-IsOutside b a part.S number = (number ≡ a.s) × IsOrder a.q × IsFrom1 b.m_max a.m × ¬ IsFrom1 b.s_max a.s
-IsOutside b a part.Depth number = (number ≡ a.depth) × (a.kind ≡ Ooa) × IsOrder a.q × IsFrom1 b.m_max a.m × IsFrom1 b.s_max a.s × ¬ IsFrom1 a.m a.depth
+-- ---- what is outside the bounds
 
-abbrev pub IsAnswer : Bounds → Ask → Result Cell Outside → Type 0
-IsAnswer b a (Ok c) = IsAsked b a c
-IsAnswer b a (Err outside) = IsOutside b a outside.name outside.number
+-- the sizes are those of a cell within the bounds
+pub record AreInside (b : Bounds) (a : Sizes) : Type 0 where
+  pub order : IsOrder a.q
+  pub m : IsFrom1 b.m_max a.m
+  pub s : IfSome a.s (IsFrom1 b.s_max)
+  pub depth : IfSome a.depth (IsFrom1 a.m)
+
+-- the first of q, m, s and depth that no cell of the bounds has
+abbrev pub AreOutside : Bounds → Sizes → Part → ℕ → Type 0
+AreOutside b a part.Q number = (number ≡ a.q) × ¬ IsOrder a.q
+AreOutside b a part.M number = (number ≡ a.m) × IsOrder a.q × ¬ IsFrom1 b.m_max a.m
+AreOutside b a part.S number = (Some number ≡ a.s) × IsOrder a.q × IsFrom1 b.m_max a.m × ¬ IsFrom1 b.s_max number
+AreOutside b a part.Depth number = (Some number ≡ a.depth) × IsOrder a.q × IsFrom1 b.m_max a.m × IfSome a.s (IsFrom1 b.s_max) × ¬ IsFrom1 a.m number
+
+-- depth is looked at for kind ooa alone
+abbrev pub asked_depth : Kind → ℕ → Option ℕ
+asked_depth Net depth = None
+asked_depth Oa depth = None
+asked_depth Ooa depth = Some depth
+asked_depth Seq depth = None
+
+abbrev pub ask_sizes : Ask → Sizes
+ask_sizes a = record { q = a.q; m = a.m; s = Some a.s; depth = asked_depth a.kind a.depth }
+
+-- what a question looks at
+abbrev pub sizes_of : Question → Option Sizes
+sizes_of (Value a) = Some (ask_sizes a)
+sizes_of (Tree a) = Some (ask_sizes a)
+sizes_of (Matrix a) = Some (ask_sizes a)
+sizes_of (Table q m) = Some (record { q = q; m = m; s = None; depth = None })
+sizes_of Export = None
+
+-- all that is looked at is inside
+abbrev pub IsInside : Bounds → Option Sizes → Type 0
+IsInside b looked_at = IfSome looked_at (AreInside b)
+
+-- the first that is outside
+abbrev pub IsOutside : Bounds → Option Sizes → Part → ℕ → Type 0
+IsOutside b looked_at name number = MatchOption looked_at ⊥ (λ a. AreOutside b a name number)

@@ -1,11 +1,12 @@
 //! Questions to a table.
-ghost use Rattle.std.specs.Prelude.{◌≡◌, ◌≢◌, ◌^◌, ◌<◌, ◌≤◌, ◌↔◌, MatchOption, IsTrue};
+ghost use Rattle.std.specs.Prelude.{◌≡◌, ◌≢◌, MatchOption};
 ghost use Rattle.mt_cells.specs.declared.asks.Kind.{Kind};
-ghost use Rattle.mt_cells.specs.Asks.{cell_by, IsFrom1, IsAnswer};
+ghost use Rattle.mt_cells.specs.Asks.{ask_sizes, sizes_of, AreInside, IsInside, IsOutside, IsAsked};
 ghost use Rattle.mt_cells.specs.Texts.{kind_text};
 
 use crate::bounds::Bounds;
 use crate::cells::Cell;
+use crate::sizes::Sizes;
 use mt_linear::Order;
 use std::error::Error;
 use std::fmt;
@@ -133,47 +134,39 @@ pub enum Question {
     Export,
 }
 
-impl Ask {
-    /// The cell that is asked for. It refuses the first of q, m, s and depth that no cell of the
-    /// bounds has: q is no order of a field, m is not from 1 to `m_max`, s not from 1 to `s_max`,
-    /// or depth not from 1 to m.
-    pub fn cell(&self, bounds: Bounds) -> Result<Cell, Outside>
-        ensures { IsAnswer bounds self.now result }
+impl Question {
+    /// The first number of the question that no cell of the bounds has, and its part.
+    pub fn outside(&self, bounds: Bounds) -> Option<Outside>
+        ensures { MatchOption result (IsInside bounds (sizes_of self.now))
+            (λ outside. IsOutside bounds (sizes_of self.now) outside.name outside.number) }
     {
-        let Some(order) = Order::of_number(self.q) else {
-            return Err(Outside {
-                name: Part::Q,
-                number: self.q,
-            });
-        };
-        if !is_from_1(bounds.m_max as u64, self.m) {
-            return Err(Outside {
-                name: Part::M,
-                number: self.m,
-            });
-        }
-        if !is_from_1(bounds.s_max as u64, self.s) {
-            return Err(Outside {
-                name: Part::S,
-                number: self.s,
-            });
-        }
-        if self.kind == Kind::Ooa && !is_from_1(self.m, self.depth) {
-            return Err(Outside {
-                name: Part::Depth,
-                number: self.depth,
-            });
-        }
-        Ok(self.cell_of(order))
+        self.sizes()?.outside(bounds)
     }
 
-    // The cell over a field of this order.
-    fn cell_of(&self, order: Order) -> Cell
-        requires m { self.now.m < 2 ^ 8 }
-        requires s { self.now.s < 2 ^ 8 }
-        requires depth { self.now.kind ≡ Kind.Ooa → self.now.depth ≤ self.now.m }
-        ensures { result ≡ cell_by self.now.kind order self.now }
+    // What the question looks at.
+    fn sizes(&self) -> Option<Sizes>
+        ensures { result ≡ sizes_of self.now }
     {
+        match self {
+            Question::Value(ask) | Question::Tree(ask) | Question::Matrix(ask) => Some(ask.sizes()),
+            Question::Table { q, m } => Some(Sizes {
+                q: *q,
+                m: *m,
+                s: None,
+                depth: None,
+            }),
+            Question::Export => None,
+        }
+    }
+}
+
+impl Ask {
+    /// The cell that is asked for.
+    pub fn cell(&self, bounds: Bounds) -> Cell
+        requires { AreInside bounds (ask_sizes self.now) }
+        ensures { IsAsked bounds self.now result }
+    {
+        let order = Order::of_number(self.q).unwrap();
         let m = self.m as u8;
         let s = self.s as u8;
         let depth = match self.kind {
@@ -184,10 +177,19 @@ impl Ask {
         };
         Cell::Ooa { order, m, s, depth }
     }
-}
 
-fn is_from_1(limit: u64, n: u64) -> bool
-    ensures { IsTrue result ↔ IsFrom1 limit n }
-{
-    1 <= n && n <= limit
+    // What is looked at.
+    fn sizes(&self) -> Sizes
+        ensures { result ≡ ask_sizes self.now }
+    {
+        Sizes {
+            q: self.q,
+            m: self.m,
+            s: Some(self.s),
+            depth: match self.kind {
+                Kind::Ooa => Some(self.depth),
+                Kind::Net | Kind::Oa | Kind::Seq => None,
+            },
+        }
+    }
 }

@@ -10,6 +10,7 @@ mod instances;
 pub mod laws;
 mod lines;
 mod rules;
+mod sizes;
 #[cfg(test)]
 mod tests;
 
@@ -20,3 +21,4 @@ pub use instances::{Instance, Instances, conclude, fan, instances_of_parent};
 pub use lines::{Line, Lines, Stage, lines_of_parent};
 pub use mt_linear::Steps;
 pub use rules::{Rule, RuleSet};
+pub use sizes::Sizes;

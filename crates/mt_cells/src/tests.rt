@@ -68,7 +68,11 @@ fn answers_to_asks(rt: HostRuntime) -> Result<(), Fail> {
             s,
             depth,
         };
-        assert_eq!(rt; ask.cell(bounds), answer);
+        let found = match Question::Value(ask).outside(bounds) {
+            None => Ok(ask.cell(bounds)),
+            Some(outside) => Err(outside),
+        };
+        assert_eq!(rt; found, answer);
     }
     Ok(())
 }
