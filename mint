@@ -1,5 +1,30 @@
 #!/bin/sh
 # Runs mint with the given words. Builds it first where there is no program yet, or one older than its sources.
+if [ "$#" = 1 ] && [ "$1" = --help ]; then
+    cat <<'HELP'
+usage: mint STORE FEED M,S COMMAND
+
+STORE is :memory: and FEED is -, today. Systems have at most M columns and S coordinates, up to 20,48.
+
+check                     whether the claim of the import text on standard input holds
+                            mint :memory: - 16,32 check < examples/golay.txt
+value KIND Q M S          the greatest value of a net, oa or seq over Q elements
+                            mint :memory: - 16,32 value net 2 10 4
+value ooa Q M S DEPTH     the same of an ordered orthogonal array
+                            mint :memory: - 16,32 value ooa 2 10 4 3
+tree ..                   a derivation of that value, with the same words
+                            mint :memory: - 16,32 tree net 2 10 4
+matrix ..                 the generator matrices that such a derivation makes, as an import text
+                            mint :memory: - 16,32 matrix net 2 10 4
+table Q M                 the values for each S, as comma-separated values
+                            mint :memory: - 16,32 table 2 10
+export                    the values of all cells, as comma-separated values
+                            mint :memory: - 16,32 export
+niederreiter Q M S        Niederreiter's generator matrices of a sequence, as an import text
+                            mint :memory: - 16,32 niederreiter 2 10 4
+HELP
+    exit 0
+fi
 top=$(cd "$(dirname "$0")" && pwd) || exit 126
 program=$top/crates/mint/out/mint
 changed() {
