@@ -33,9 +33,9 @@ pub fn text(alloc: Global, table: &Table, question: &Question) -> Result<Vec<u8>
 {
     let bounds = table.bounds();
     match question {
-        Question::Value(ask) => value_answer(alloc, table, ask, ask.cell(bounds)),
-        Question::Tree(ask) => tree_lines(alloc, table, ask.cell(bounds)),
-        Question::Matrix(ask) => matrix_lines(alloc, table, ask, ask.cell(bounds)),
+        Question::Value(ask) => value_answer(alloc, table, ask, ask.cell_within(bounds)),
+        Question::Tree(ask) => tree_lines(alloc, table, ask.cell_within(bounds)),
+        Question::Matrix(ask) => matrix_lines(alloc, table, ask, ask.cell_within(bounds)),
         Question::Table { q, m } => {
             let order = Order::of_number(*q).unwrap();
             table_lines(alloc, table, order, *m as u8)

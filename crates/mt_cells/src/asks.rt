@@ -1,7 +1,7 @@
 //! Questions to a table.
-ghost use Rattle.std.specs.Prelude.{◌≡◌, ◌≢◌, MatchOption};
+ghost use Rattle.std.specs.Prelude.{◌≡◌, ◌≢◌, MatchOption, MatchResult};
 ghost use Rattle.mt_cells.specs.declared.asks.Kind.{Kind};
-ghost use Rattle.mt_cells.specs.Asks.{ask_sizes, sizes_of, AreInside, IsInside, IsOutside, IsAsked};
+ghost use Rattle.mt_cells.specs.Asks.{ask_sizes, sizes_of, AreInside, AreOutside, IsInside, IsOutside, IsAsked};
 ghost use Rattle.mt_cells.specs.Texts.{kind_text};
 
 use crate::bounds::Bounds;
@@ -161,8 +161,20 @@ impl Question {
 }
 
 impl Ask {
-    /// The cell that is asked for.
-    pub fn cell(&self, bounds: Bounds) -> Cell
+    /// The cell that is asked for, or the first of q, m, s and depth that no cell of the bounds has,
+    /// as [`Sizes::outside`] finds it.
+    pub fn cell(&self, bounds: Bounds) -> Result<Cell, Outside>
+        ensures { MatchResult result (IsAsked bounds self.now)
+            (λ outside. AreOutside bounds (ask_sizes self.now) outside.name outside.number) }
+    {
+        match self.sizes().outside(bounds) {
+            None => Ok(self.cell_within(bounds)),
+            Some(outside) => Err(outside),
+        }
+    }
+
+    /// The cell that is asked for, where the bounds are known to have it.
+    pub fn cell_within(&self, bounds: Bounds) -> Cell
         requires { AreInside bounds (ask_sizes self.now) }
         ensures { IsAsked bounds self.now result }
     {

@@ -68,11 +68,8 @@ fn answers_to_asks(rt: HostRuntime) -> Result<(), Fail> {
             s,
             depth,
         };
-        let found = match Question::Value(ask).outside(bounds) {
-            None => Ok(ask.cell(bounds)),
-            Some(outside) => Err(outside),
-        };
-        assert_eq!(rt; found, answer);
+        assert_eq!(rt; ask.cell(bounds), answer);
+        assert_eq!(rt; Question::Value(ask).outside(bounds), answer.err());
     }
     Ok(())
 }
