@@ -2,7 +2,7 @@
 # Time mint beside the plain C program on the same texts and compare their answers: for each of the
 # seven orders an array of 3,838,380 or 3,930,551 choices that holds, for all but 2 the same array that
 # fails at its very last choice, and a net and a sequence over 9.
-# Prints for each text the milliseconds of both (median of 5 runs in turn, the start
+# Prints for each text the milliseconds of both (least of 9 runs in turn, the start
 # of the process included) and their ratio, and for a text that fails the ratio of mint's time to that
 # of the text that holds; ends with status 1 if the answers differ.
 # MINT names another program to run, from the top of the repository; CC a compiler.
@@ -47,7 +47,7 @@ time_of() {
     echo $((${EPOCHREALTIME/./} - start))
 }
 
-median() { sort -n "$1" | sed -n 3p; }
+least() { sort -n "$1" | head -n 1; }
 
 result=0
 for name in $names; do
@@ -63,12 +63,12 @@ for name in $names; do
     fi
     : >"$work/mint.times"
     : >"$work/plain.times"
-    for _ in 1 2 3 4 5; do
+    for _ in 1 2 3 4 5 6 7 8 9; do
         time_of "$mint" "$text" >>"$work/mint.times"
         time_of "$work/plain" "$text" >>"$work/plain.times"
     done
-    of_mint=$(median "$work/mint.times")
-    of_plain=$(median "$work/plain.times")
+    of_mint=$(least "$work/mint.times")
+    of_plain=$(least "$work/plain.times")
     awk -v name="$name" -v mint="$of_mint" -v plain="$of_plain" -v held="$held" 'BEGIN {
         printf "%s: mint %.1f ms, plain %.1f ms, ratio %.2f", name, mint / 1000, plain / 1000, mint / plain
         if (name ~ /^last/) printf ", to the text that holds %.2f", mint / held
