@@ -1,6 +1,8 @@
 pub mod Triangles
 pub mod CellLemmas
 pub mod CellSearch
-pub mod PlaceLemmas
+pub mod RuleLemmas
+pub mod SpotLemmas
+pub mod CountLemmas
 pub mod PickedLemmas
 pub mod ListedLemmas

@@ -20,5 +20,5 @@ pub use cells::Cell;
 pub use instances::{Instance, Instances, conclude, fan, instances_of_parent};
 pub use lines::{Line, Lines, Stage, lines_of_parent};
 pub use mt_linear::Steps;
-pub use rules::{Rule, RuleSet};
+pub use rules::{RULES, Rule, RuleSet};
 pub use sizes::Sizes;
