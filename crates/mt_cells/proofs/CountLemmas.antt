@@ -1,10 +1,9 @@
 -- How many spots there are.
-use Rattle.std.proofs.Common.{ℕ, zero, suc, ◌≡◌, ◌+◌, ◌-◌, ◌*◌, ◌≤◌, ◌<◌, ap, refl, arith, sym, ◌∙◌, ⊎_elim, inl, inr, subst, cond}
+use Rattle.std.proofs.Common.{ℕ, zero, suc, ◌≡◌, ◌+◌, ◌-◌, ◌*◌, ◌≤◌, ◌<◌, ap, arith, sym, ◌∙◌, ⊎_elim, inl, inr, subst, cond}
 use Rattle.std.proofs.Math.Nat.{mul-le-mul_right}
 use Rattle.std.proofs.lemmas.Bool.{cases_lt}
 use Rattle.std.proofs.lemmas.Nat.{mul-le}
 use Rattle.mt_cells.specs.declared.bounds.Bounds.{Bounds}
-use Rattle.mt_cells.specs.declared.rules.Rule.{Rule}
 use Rattle.mt_cells.specs.declared.lines.Stage.{Stage}
 use Rattle.mt_cells.specs.declared.lines.Stage.TheVariants as stage
 use Rattle.mt_cells.specs.Rules.{is_pair_rule}

@@ -1,8 +1,8 @@
 -- What holds of each rule.
-use Rattle.std.proofs.Common.{◌≡◌, ◌≢◌, ℕ, ◌+◌, ◌-◌, ◌*◌, ◌≤◌, ◌<◌, ◌↔◌, ◌&&◌, eqb, leb, ltb, ap, refl, arith, sym, Option, Some, None, subst, min, Bool, true, false, IsTrue}
+use Rattle.std.proofs.Common.{◌≡◌, ◌==◌, ℕ, ◌+◌, ◌≤◌, ◌<◌, ◌&&◌, eqb, leb, ltb, ap, refl, arith, le_trans, inl, inr, Option, Some, None, true, false}
 use Rattle.std.specs.Prelude.{slice_get}
 use Rattle.std.specs.Bool.{Decides}
-use Rattle.std.proofs.lemmas.Bool.{leb-true, le-leb, ltb-true, and_parts, and_from}
+use Rattle.std.proofs.lemmas.Bool.{cases_Bool, leb-true, le-leb, ltb-true, and_parts, and_from}
 use Rattle.std.proofs.lemmas.Bool.Decides.{Decides-and, Decides-eqb, Decides-like}
 use Rattle.mt_linear.specs.declared.order.Order.{Order}
 use Rattle.mt_linear.specs.Field.{number_of}
@@ -12,8 +12,9 @@ use Rattle.mt_cells.specs.declared.cells.Cell.TheVariants.{Ooa, Seq}
 use Rattle.mt_cells.specs.declared.rules.Rule.{Rule}
 use Rattle.mt_cells.specs.declared.rules.Rule.TheVariants.{Fewer, Shallower, Deeper, Longer, QuotientKeep, QuotientDrop, SeqFewer, SeqCut, SeqToNet, Product, Uuv}
 use Rattle.mt_cells.specs.declared.rules.TheConstants.{RULES}
-use Rattle.mt_cells.specs.Cells.{InBounds, coordinates_of}
-use Rattle.mt_cells.specs.Rules.{has_target, HasTarget, target, fits, has_pair_target, HasPairTarget, rule_index, all_rules, is_pair_rule}
+use Rattle.mt_cells.specs.Cells.{InBounds, columns_of, coordinates_of}
+use Rattle.mt_cells.specs.Rules.{HasTarget, target, conclusion, pair_conclusion, deepened_strength, least_parent, pair_target, fits, HasPairTarget, rule_index, all_rules, is_pair_rule}
+use Rattle.mt_cells.specs.Instances.{Leads, conclusion_by, second_or}
 use Rattle.mt_cells.specs.Spots.{least_second, most_first}
 use Rattle.mt_cells.proofs.CellLemmas.{order_same}
 
@@ -124,3 +125,78 @@ has_first b r p q e h l = absurd cc
 pub least_low : (r : Rule) (c : Cell) → 1 ≤ coordinates_of c → 1 ≤ least_second r c
 least_low Uuv c l = l
 least_low r c l = omega arith
+
+-- ---- conclusions
+
+-- a greater value of the parent concludes no less
+pub conclusion_mono : (r : Rule) (p : Cell) (j k : ℕ) → j ≤ k → conclusion r p j ≤ conclusion r p k
+conclusion_mono Deeper (Ooa o m s depth) j k h = omega arith
+conclusion_mono QuotientKeep p j k h = omega arith
+conclusion_mono QuotientDrop p j k h = omega arith
+conclusion_mono SeqCut p j k h = omega arith
+conclusion_mono r p j k h = h
+
+deepened_mono : (depth deeper j k : ℕ) → j ≤ k → deepened_strength depth deeper j ≤ deepened_strength depth deeper k
+deepened_mono depth deeper j k h = elim (cases_Bool (depth == deeper)) [ inl e ↦ rw e h | inr e ↦ rw e (omega arith) ]
+
+-- greater values of the parents conclude no less
+pub pair_mono : (r : Rule) (p q : Cell) (j k g l : ℕ) → j ≤ k → g ≤ l → pair_conclusion r p q j g ≤ pair_conclusion r p q k l
+pair_mono Product (Ooa o m s depth) (Ooa p n t deeper) j k g l h i = let more = deepened_mono depth deeper j k h in omega arith
+pair_mono Uuv (Ooa o m s depth) (Ooa p n t deeper) j k g l h i = let more = deepened_mono depth deeper j k h in omega arith
+pair_mono r p q j k g l h i = omega arith
+
+-- a derivation goes on from a parent whose conclusion is more than nothing
+pub conclusion_least : (r : Rule) (p : Cell) (k : ℕ) → 0 < conclusion r p k → least_parent r ≤ k
+conclusion_least QuotientKeep p k h = omega arith
+conclusion_least QuotientDrop p k h = omega arith
+conclusion_least SeqCut p k h = omega arith
+conclusion_least r p k h = omega arith
+
+-- a conclusion is no more than the value of the parent
+conclusion_low : (r : Rule) (p : Cell) (k : ℕ) → conclusion r p k ≤ k
+conclusion_low Deeper (Ooa o m s depth) k = omega arith
+conclusion_low QuotientKeep p k = omega arith
+conclusion_low QuotientDrop p k = omega arith
+conclusion_low SeqCut p k = omega arith
+conclusion_low r p k = omega arith
+
+-- a conclusion is at most the columns of the target where the value is at most those of the parent
+single_within : (b : Bounds) (r : Rule) (p : Cell) (k : ℕ) → HasTarget b r p → k ≤ columns_of p → conclusion r p k ≤ columns_of (target r p)
+single_within b Fewer (Ooa o m s depth) k h i = i
+single_within b Shallower (Ooa o m s depth) k h i = i
+single_within b Deeper (Ooa o m s depth) k h i = omega (arith, i)
+single_within b Longer (Ooa o m s depth) k h i = omega (arith, i)
+single_within b QuotientKeep (Ooa o m s depth) k h i = omega (arith, i)
+single_within b QuotientDrop (Ooa o m s depth) k h i = omega (arith, i)
+single_within b SeqFewer (Seq o m s) k h i = i
+single_within b SeqCut (Seq o m s) k h i = omega (arith, i)
+single_within b SeqToNet (Seq o m s) k h i = i
+single_within b r p k h i = absurd cc
+
+-- a conclusion from two parents is at most as great as a bound of their values
+pair_high : (r : Rule) (p q : Cell) (most j k : ℕ) → j ≤ most → k ≤ most → pair_conclusion r p q j k ≤ most
+pair_high Product (Ooa o m s depth) (Ooa p n t deeper) most j k h i = omega arith
+pair_high Uuv (Ooa o m s depth) (Ooa p n t deeper) most j k h i = omega arith
+pair_high r p q most j k h i = omega arith
+
+-- it is at most the columns of the target where the value of the second is at most those of the second
+pair_within : (b : Bounds) (r : Rule) (p q : Cell) (j k : ℕ) → HasPairTarget b r p q → k ≤ columns_of q → pair_conclusion r p q j k ≤ columns_of (pair_target r p q)
+pair_within b Product (Ooa o m s depth) (Ooa p n t deeper) j k h i = omega (arith, i)
+pair_within b Uuv (Ooa o m s depth) (Ooa p n t deeper) j k h i = omega (arith, i)
+pair_within b r p q j k h i = absurd cc
+
+-- a rule with two parents asks nothing of their values
+pub pair_least_parent : (b : Bounds) (r : Rule) (p q : Cell) → HasPairTarget b r p q → least_parent r ≡ 0
+pair_least_parent b Product p q h = refl
+pair_least_parent b Uuv p q h = refl
+pair_least_parent b r p q h = absurd cc
+
+-- a conclusion is at most as great as a bound of the values of the parents
+pub high_by : (r : Rule) (p : Cell) (q : Option Cell) (most j k : ℕ) → j ≤ most → k ≤ most → conclusion_by r p q j k ≤ most
+high_by r p None most j k h i = le_trans (conclusion_low r p j) h
+high_by r p (Some q) most j k h i = pair_high r p q most j k h i
+
+-- a conclusion is at most the columns of the target where the values are at most those of the parents
+pub conclusion_within : (b : Bounds) (r : Rule) (t p : Cell) (q : Option Cell) (j k : ℕ) → Leads b r t p q → j ≤ columns_of p → k ≤ columns_of (second_or p q) → conclusion_by r p q j k ≤ columns_of t
+conclusion_within b r t p None j k l h i = rw l.1 (single_within b r p j l.0 h)
+conclusion_within b r t p (Some q) j k l h i = rw l.2 (pair_within b r p q j k l.1 i)

@@ -1,5 +1,5 @@
 -- Each instance with a parent stands at a spot of it, and each spot holds one.
-use Rattle.std.proofs.Common.{ℕ, ◌≡◌, ◌≢◌, ◌+◌, ◌-◌, ◌*◌, ◌/◌, ◌%◌, ◌≤◌, ◌<◌, ◌↔◌, ap, ap₂, refl, arith, sym, ◌∙◌, ⊎_elim, ◌⊎◌, inl, inr, Option, Some, None, subst, min, cond, Bool, true, false, MatchOption}
+use Rattle.std.proofs.Common.{ℕ, ◌≡◌, ◌≢◌, ◌+◌, ◌-◌, ◌*◌, ◌/◌, ◌%◌, ◌≤◌, ◌<◌, ◌↔◌, ap, ap₂, refl, arith, sym, ◌∙◌, ⊎_elim, ◌⊎◌, inl, inr, Option, Some, None, subst, cond, Bool, true, false, MatchOption}
 use Rattle.std.proofs.lemmas.Bool.{cases_lt, cases_eq, cases_Bool}
 use Rattle.mt_cells.specs.declared.bounds.Bounds.{Bounds}
 use Rattle.mt_cells.specs.declared.bounds.TheConstants.{MOST_COLUMNS}

@@ -1,5 +1,5 @@
 use Rattle.std.proofs.Common.{arith}
-use Rattle.mt_cells.proofs.SpotLemmas.{position_small, stands, reach_high, reach_top, column_next, stage_next}
+use Rattle.mt_cells.proofs.SpotLemmas.{position_small, stands, reach_high, column_next, stage_next}
 use Rattle.mt_cells.proofs.lines.Lines.step.Goals as goal
 
 pub returns-then-self-reach-clause-later : goal.returns-then-self-reach-clause-later
