@@ -4,7 +4,9 @@ ghost use Rattle.mt_cells.specs.declared.bounds.TheConstants.{MOST_COLUMNS};
 ghost use Rattle.mt_cells.specs.Cells.{cells_of};
 ghost use Rattle.mt_table.specs.Shapes.{IsShaped, NoneBefore, ArePlaced, ArePlaced-prop, HasRoom, AreTops, sum_of};
 
-use mt_cells::{Bounds, Cell, Instance, Line, Rule, RuleSet, Stage, Steps, conclude, lines_of_parent};
+use mt_cells::{
+    Bounds, Cell, Instance, Line, Rule, RuleSet, Stage, Steps, conclude, lines_of_parent,
+};
 use mt_derive::{Axioms, Made, Node, Nodes};
 use std::alloc::{AllocError, Global};
 use std::sync::ledger::Ledger;
@@ -199,9 +201,19 @@ impl Work {
         ensures tried { LinePropagated self.old cell line.now self.new }
     {
         match line.stage {
-            Stage::First(Rule::Product) => self.run_stage(cell, line, Stage::First(Rule::Product), steps),
+            Stage::First(Rule::Product) => self.run_stage(
+                cell,
+                line,
+                Stage::First(Rule::Product),
+                steps,
+            ),
             Stage::First(Rule::Uuv) => self.run_stage(cell, line, Stage::First(Rule::Uuv), steps),
-            Stage::Second(Rule::Product) => self.run_stage(cell, line, Stage::Second(Rule::Product), steps),
+            Stage::Second(Rule::Product) => self.run_stage(
+                cell,
+                line,
+                Stage::Second(Rule::Product),
+                steps,
+            ),
             Stage::Second(Rule::Uuv) => self.run_stage(cell, line, Stage::Second(Rule::Uuv), steps),
             _ => self.run_line(cell, line, steps),
         }
