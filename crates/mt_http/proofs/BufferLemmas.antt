@@ -1,5 +1,5 @@
 -- Bytes that move from a source to a buffer, read after read.
-use Rattle.std.proofs.Common.{◌≡◌, ℕ, ◌+◌, ◌-◌, ◌<◌, ◌≤◌, List, [], ◌∷◌, ◌++◌, length, take, drop, refl, sym, ◌∙◌, ap, arith, rules, append_assoc, length-take, length-drop, Ok, Option, Some, None}
+use Rattle.std.proofs.Common.{◌≡◌, ℕ, ◌+◌, ◌-◌, ◌≤◌, List, ◌++◌, length, take, drop, refl, sym, ◌∙◌, ap, arith, append_assoc, length-take, length-drop, Ok, Option, Some, None}
 use Rattle.std.proofs.lemmas.List.{append-nil, drop_at, drop_all, drop-take}
 use Rattle.std.proofs.lemmas.List.Edits.{take-paste}
 use Rattle.std.proofs.Math.Seq.{take-add}
@@ -8,7 +8,7 @@ use Rattle.mt_io.specs.declared.Failed.{Failed}
 use Rattle.mt_io.specs.Streams.{Takes}
 use Rattle.mt_io.specs.Told.{Keeps, NoneLeft}
 use Rattle.mt_http.specs.Awaiting.{IsRead}
-use Rattle.mt_http.specs.Buffers.{Held, ahead, Grows, Moves}
+use Rattle.mt_http.specs.Buffers.{Grows, Moves}
 
 pub keeps_none : (a : List ℕ) (l : Option (List ℕ)) → Keeps a l a l
 keeps_none a None = tt

@@ -1,5 +1,5 @@
 -- A target that has an address.
-use Rattle.std.proofs.Common.{◌≡◌, ℕ, List, Option, None, Some, sym, ◌∙◌, subst, refl}
+use Rattle.std.proofs.Common.{◌≡◌, ℕ, List, Option, None, Some, sym, ◌∙◌, subst}
 use Rattle.std.specs.Prelude.{IsAscii, IfSome, IfNone}
 use Rattle.matchit.specs.Params.{walk}
 use Rattle.matchit.specs.Router.{RouteOf}
@@ -7,7 +7,7 @@ use Rattle.matchit.specs.Seek.{first}
 use Rattle.mt_http.specs.declared.routes.Address.{Address}
 use Rattle.mt_http.specs.declared.finding.Found.{Found}
 use Rattle.mt_http.specs.Addresses.{routes_of}
-use Rattle.mt_http.specs.Finding.{path_of, query_of, IsFor, IsFound, Finds}
+use Rattle.mt_http.specs.Finding.{path_of, query_of, IsFor, Finds}
 
 some_same : (a b : RouteOf Address) → Some a ≡ Some b → a ≡ b
 some_same a b e = cc

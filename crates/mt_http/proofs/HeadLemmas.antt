@@ -1,13 +1,11 @@
 -- Heads in a part of the stream.
-use Rattle.std.proofs.Common.{◌≡◌, ◌≢◌, ℕ, zero, suc, ◌+◌, ◌-◌, ◌<◌, ◌≤◌, min, Bool, true, false, cond, List, [], ◌∷◌, ◌++◌, length, take, drop, map, refl, sym, ◌∙◌, ap, subst, arith, length-append, length-take, length-drop, append_assoc, inl, inr}
-use Rattle.std.proofs.lemmas.Grind.{common_steps}
+use Rattle.std.proofs.Common.{◌≡◌, ℕ, zero, suc, ◌+◌, ◌-◌, ◌<◌, ◌≤◌, min, true, false, cond, List, [], ◌∷◌, length, take, drop, refl, sym, ◌∙◌, arith, length-take, length-drop, inl, inr}
 use Rattle.std.proofs.lemmas.Bool.{cases_lt}
-use Rattle.std.proofs.lemmas.List.{take-append-le, take-take}
-use Rattle.std.proofs.lemmas.List.Folds.{prefix_len-append}
+use Rattle.std.proofs.lemmas.List.{take-take}
 use Rattle.std.proofs.lemmas.List.Sums.{prefix_len-le-length}
 use Rattle.mt_http.specs.declared.TheConstants.{HEAD_LIMIT}
 use Rattle.mt_http.specs.Bytes.{is_line_end, blank_len, from_head, ends_empty, IsHeadLen, LacksHead}
-use Rattle.mt_http.specs.Places.{IsHeadAt, LacksHeadIn}
+use Rattle.mt_http.specs.Places.{LacksHeadIn}
 
 pub true_ne_false : true ≡ false → ⊥
 true_ne_false e = cc

@@ -1,25 +1,25 @@
 -- What a stream begins with stays when more bytes come.
-use Rattle.std.proofs.Common.{◌≡◌, ◌≢◌, ℕ, ◌+◌, ◌-◌, ◌<◌, ◌≤◌, ◌⊎◌, inl, inr, Bool, true, false, cond, List, [], ◌∷◌, ◌++◌, length, take, drop, slice_range, refl, sym, ◌∙◌, ap, subst, arith, rules, append_assoc, length-append, length-take, length-drop, Option, Some, None, Result, Ok, Err}
+use Rattle.std.proofs.Common.{◌≡◌, ℕ, ◌+◌, ◌-◌, ◌<◌, ◌≤◌, ◌⊎◌, inl, inr, Bool, false, cond, List, ◌++◌, length, take, drop, slice_range, sym, ◌∙◌, ap, subst, arith, length-append, length-take, length-drop, Option, Some, None, Result, Ok, Err}
 use Rattle.std.proofs.lemmas.Bool.{cases_lt}
 use Rattle.std.proofs.lemmas.Bool.Decides.{eqb_tells}
-use Rattle.std.proofs.lemmas.List.{append-nil, drop_at, drop_all, drop-drop, take_all, take_at, take-take, drop-take, take-append-le, drop-append-le}
+use Rattle.std.proofs.lemmas.List.{append-nil, drop-drop, take-take, drop-take, take-append-le, drop-append-le}
 use Rattle.std.proofs.lemmas.List.Folds.{prefix_len-append}
 use Rattle.std.proofs.lemmas.List.Sums.{prefix_len-le-length}
 use Rattle.mt_http.specs.declared.TheConstants.{HEAD_LIMIT}
 use Rattle.mt_http.specs.declared.wire.Refusal.{Refusal}
 use Rattle.mt_http.specs.declared.wire.Got.{Got}
 use Rattle.mt_http.specs.declared.wire.Got.TheVariants as got
-use Rattle.mt_io.specs.Told.{WhereTold, Keeps, NoneLeft}
+use Rattle.mt_io.specs.Told.{WhereTold, Keeps}
 use Rattle.mt_http.specs.Buffers.{Held, ahead, Grows}
 use Rattle.mt_http.specs.Bytes.{is_line_end, blank_len, from_head, ends_empty, IsHeadLen, LacksHead}
 use Rattle.mt_http.specs.Places.{IsHeadAt, LacksHeadIn}
 use Rattle.mt_http.specs.Fields.{Heading}
 use Rattle.mt_http.specs.Heads.{Says}
-use Rattle.mt_http.specs.Items.{Request, Opening, asked, refused, ended, cut, HasHead, behind, request_with, IsAsked, EndsInHead, EndsInBody, IsRefused, Begins}
+use Rattle.mt_http.specs.Items.{Request, ended, cut, HasHead, behind, IsAsked, EndsInBody, IsRefused, Begins}
 use Rattle.mt_http.specs.Parsed.{heading_at}
 use Rattle.mt_http.specs.Reading.{request_at, IsGot, IsFirst}
 use Rattle.mt_http.specs.declared.heads.HeadingSpans.{HeadingSpans}
-use Rattle.mt_http.proofs.HeadLemmas.{head_in_prefix, empty_ends_not, true_ne_false}
+use Rattle.mt_http.proofs.HeadLemmas.{empty_ends_not, true_ne_false}
 
 -- a head has bytes
 pub head_has_bytes : (text : List ℕ) (n : ℕ) → IsHeadLen text n → 0 < n

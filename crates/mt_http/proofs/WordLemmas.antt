@@ -1,6 +1,6 @@
 -- Numbers among the parts of a path.
-use Rattle.std.proofs.Common.{◌≡◌, ◌≢◌, ℕ, ◌+◌, ◌^◌, ◌<◌, ◌≤◌, List, [], ◌∷◌, ◌++◌, length, get_or, decimal, ap, sym, ◌∙◌, subst, arith, refl, inl, inr, take, drop, cond, true, false, ◌&&◌, leb, ◌-◌}
-use Rattle.std.specs.Prelude.{Option, None, Some, Result, Ok, Err, MatchOption, IsSome, IfSome, IfNone, IsAscii, IsUtf8}
+use Rattle.std.proofs.Common.{◌≡◌, ◌≢◌, ℕ, ◌^◌, ◌<◌, List, [], ◌∷◌, length, decimal, sym, ◌∙◌, subst, refl, take, drop, cond, true, false, ◌&&◌, leb, ◌-◌}
+use Rattle.std.specs.Prelude.{Option, None, Some, MatchOption, IfSome, IfNone, IsAscii, IsUtf8}
 use Rattle.std.proofs.lemmas.Fmt.{decimal_injective}
 use Rattle.std.proofs.lemmas.Str.{IsUtf8-from_ascii, IsAscii-take, IsAscii-drop}
 use Rattle.matchit.specs.Params.{walk, part_of}

@@ -1,19 +1,11 @@
 -- The addresses, and which of them a target has.
-use Rattle.std.specs.Prelude.{◌≡◌, ◌≢◌, ℕ, ◌^◌, ◌<◌, ◌≤◌, List, [], ◌∷◌, ◌++◌, length, slice_index, codes, decimal, map, All, IsAscii, Option, Some, None, Result, Ok, Err}
+use Rattle.std.specs.Prelude.{◌≡◌, ℕ, ◌^◌, ◌<◌, List, [], ◌∷◌, codes, decimal, IsAscii, None, Result, Ok, Err}
 use Rattle.matchit.specs.Order.{placed}
 use Rattle.matchit.specs.Route.{Scan, parse_route}
 use Rattle.matchit.specs.Router.{RouteOf, route_from, nearest}
 use Rattle.matchit.specs.Rows.{RowsOf}
 use Rattle.matchit.specs.declared.error.InsertError.{InsertError}
-use Rattle.matchit.specs.Params.{walk}
-use Rattle.matchit.specs.Seek.{first}
-use Rattle.mt_cells.specs.declared.asks.Kind.{Kind}
 use Rattle.mt_cells.specs.declared.asks.Kind.TheVariants as kind
-use Rattle.mt_cells.specs.declared.asks.Ask.{Ask}
-use Rattle.mt_cells.specs.declared.asks.Question.{Question}
-use Rattle.mt_cells.specs.declared.asks.Question.TheVariants as question
-use Rattle.mt_http.specs.declared.wire.Verb.{Verb}
-use Rattle.mt_http.specs.declared.wire.Verb.TheVariants as verb
 use Rattle.mt_http.specs.declared.routes.Address.{Address}
 use Rattle.mt_http.specs.declared.routes.Address.TheVariants as address
 

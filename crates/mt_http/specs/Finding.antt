@@ -1,11 +1,10 @@
 -- Which address a target has, and what is asked by it.
-use Rattle.std.specs.Prelude.{◌≡◌, ℕ, ◌+◌, ◌^◌, ◌<◌, Bool, ◌==◌, List, ◌++◌, take, drop, position, codes, decimal, IsAscii, Option, Some, None}
+use Rattle.std.specs.Prelude.{◌≡◌, ℕ, ◌+◌, ◌^◌, ◌<◌, ◌==◌, List, ◌++◌, take, drop, position, codes, decimal, IsAscii, Option, Some, None}
 use Rattle.matchit.specs.Params.{walk}
 use Rattle.matchit.specs.Router.{RouteOf}
 use Rattle.matchit.specs.Seek.{first}
 use Rattle.mt_http.specs.declared.routes.Address.{Address}
 use Rattle.mt_http.specs.declared.routes.Address.TheVariants as address
-use Rattle.mt_cells.specs.declared.asks.Question.{Question}
 use Rattle.mt_http.specs.declared.finding.Found.{Found}
 use Rattle.mt_http.specs.declared.finding.Found.TheVariants as found
 use Rattle.mt_http.specs.declared.finding.Asked.{Asked}

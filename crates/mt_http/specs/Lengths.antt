@@ -1,5 +1,5 @@
 -- The values of Content-Length, one after another. Internal: a reader need not believe this.
-use Rattle.std.specs.Prelude.{ℕ, ◌==◌, codes, List, [], ◌∷◌, Option, Some, None, Result, Ok, Err, if◌then◌else◌}
+use Rattle.std.specs.Prelude.{ℕ, ◌==◌, codes, List, Option, Some, None, Result, Ok, Err, if◌then◌else◌}
 use Rattle.std.specs.Str.Parse.{digits_value}
 use Rattle.mt_http.specs.declared.wire.Refusal.{Refusal}
 use Rattle.mt_http.specs.declared.wire.Refusal.TheVariants as refusal

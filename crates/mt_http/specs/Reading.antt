@@ -1,5 +1,5 @@
 -- What one call that reads a request answers.
-use Rattle.std.specs.Prelude.{◌≡◌, ℕ, ◌+◌, ◌<◌, ◌≤◌, ◌⊎◌, Bool, true, false, List, ◌++◌, length, take, drop, slice_range, Option, None, Some}
+use Rattle.std.specs.Prelude.{◌≡◌, ℕ, ◌≤◌, ◌⊎◌, Bool, true, false, List, ◌++◌, length, slice_range, Option}
 use Rattle.mt_io.specs.Faults.{Rose}
 use Rattle.mt_http.specs.declared.wire.Got.{Got}
 use Rattle.mt_http.specs.declared.wire.Got.TheVariants as got
@@ -34,7 +34,7 @@ request_at bytes wire = record {
   close = wire.close;
 }
 
--- the bytes held, and then nothing, begin with a whole request, a refusal or an end
+-- what the bytes held, as a stream of their own, begin with
 abbrev pub IsGot : Got → Held → Option (List ℕ) → Type 0
 IsGot (got.Request wire) held left =
     IsIn held.bytes wire.target × IsIn held.bytes wire.body

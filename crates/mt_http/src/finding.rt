@@ -36,7 +36,9 @@ pub(crate) enum Found {
     },
 }
 
-/// The addresses.
+/// The addresses: `/net/{q}/{m}/{s}`, `/oa/..`, `/sequence/..` and `/ooa/{q}/{m}/{s}/{depth}`, these
+/// behind `/tree` and `/matrix`, `/table/{q}/{m}`, `/least-m/{q}/{s}/{k}`, `/version` and `/export`
+/// for GET, and `/import` for POST.
 #[derive(Drop)]
 pub struct Routes {
     router: Router<Address>,
@@ -44,13 +46,16 @@ pub struct Routes {
 }
 
 impl Routes {
+    /// All addresses. It fails where there is no memory for them.
     pub fn new(alloc: Global) -> Result<Routes, AllocError> {
         Ok(Routes {
             router: make_router(alloc)?,
         })
     }
 
-    /// What is asked by this method and this target.
+    /// What is asked by this method and this target, which is cut at its first `?`. For GET what
+    /// stands behind it has to be `at_least=` and a number. A method other than GET and POST is
+    /// refused first, then a target that has no address, then the other method. It takes no memory.
     pub fn find(&self, verb: Verb, target: &[u8]) -> Asked
         ensures { ((f : Option Found) × Finds target.now f × (result ≡ asked_for verb f)) }
     {

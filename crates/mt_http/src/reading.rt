@@ -35,7 +35,7 @@ pub(crate) enum Filled {
 /// left of the source. The request's spans lie in the buffer, which keeps what was read too far for
 /// the next call. A body whose request is refused is not waited for. It takes no memory.
 ///
-/// Source: RFC 9112, sections 2 to 6 and 9.6, in the profile of HTTP/1.1 that `specs/Items` says.
+/// Source: RFC 9112, in the profile of `specs/Items` and `specs/Fields`.
 pub fn read_request<S: Source>(source: &mut S, buffer: &mut Buffer) -> Got
     ensures moves { Moves (ahead buffer.old) (S.left source.old) buffer.new.bytes (S.left source.new) }
     ensures got { IsGot result buffer.new (S.left source.new) }

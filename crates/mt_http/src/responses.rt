@@ -23,7 +23,9 @@ pub enum Allow {
     Both,
 }
 
-/// The bytes of a response.
+/// The bytes of a response: the status line, the media type, the length, the methods that are
+/// allowed and the close where there are such, an empty line, and the body. It fails only for want
+/// of memory.
 #[tactic(auto, unfolding(crate::specs::Responses::response))]
 pub fn response_bytes(
     alloc: Global,
@@ -115,7 +117,7 @@ fn close_line(close: bool) -> &'static str
     if close { "Connection: close\r\n" } else { "" }
 }
 
-/// The response for want of memory.
+/// The response for want of memory, which takes none.
 #[tactic(auto, unfolding(crate::specs::Responses::response))]
 pub fn memory_response(close: bool) -> &'static [u8]
     ensures { result.now ≡ memory_text close }
@@ -127,7 +129,8 @@ pub fn memory_response(close: bool) -> &'static [u8]
     }
 }
 
-/// The response to what is refused while it is read.
+/// The response to what is refused while it is read. The connection closes behind it, and it takes
+/// no memory.
 #[tactic(auto, unfolding(crate::specs::Responses::response))]
 pub fn refusal_response(refusal: Refusal) -> &'static [u8]
     ensures { result.now ≡ refusal_text refusal }

@@ -2,8 +2,8 @@
 ghost use Rattle.std.specs.Prelude.{◌≡◌, ℕ, [], IfOk, IfSome, IfNone, OnSome};
 ghost use Rattle.mt_http.specs.Addresses.{with_route, FitsRoute, routes_1, routes_of, Pairs, ArePartsAscii, IsNumberFirst};
 
-use mt_cells::{Kind, plain_number};
 use matchit::{InsertError, ParamsIter, Router};
+use mt_cells::{Kind, plain_number};
 use std::alloc::{AllocError, Global};
 
 // What a route is for.

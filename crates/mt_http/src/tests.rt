@@ -221,7 +221,8 @@ fn expect_stream(
 
 #[test]
 fn requests_are_read_in_pieces(rt: HostRuntime) -> Result<(), Fail> {
-    let stream = b"\r\n\nGET /version HTTP/1.1\r\nHost: here\r\n\r\nPOST /import HTTP/1.1\ncontent-length: 005\nContent-Length:5 \n\nabc\r\n\n\nPUT /a?b HTTP/1.0\r\n\r\nGET / HTTP/1.1\r\nConnection: CLOSE\r\n\r\n\r\n";
+    let stream =
+        b"\r\n\nGET /version HTTP/1.1\r\nHost: here\r\n\r\nPOST /import HTTP/1.1\ncontent-length: 005\nContent-Length:5 \n\nabc\r\n\n\nPUT /a?b HTTP/1.0\r\n\r\nGET / HTTP/1.1\r\nConnection: CLOSE\r\n\r\n\r\n";
     let requests: [Wanted<'_>; 4] = [
         (Verb::Get, b"/version", b"", false),
         (Verb::Post, b"/import", b"abc\r\n", false),

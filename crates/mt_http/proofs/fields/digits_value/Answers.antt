@@ -1,4 +1,4 @@
-use Rattle.std.proofs.Common.{◌≡◌, arith}
+use Rattle.std.proofs.Common.{arith}
 use Rattle.mt_http.proofs.FieldLemmas.{digit_fits}
 use Rattle.mt_http.proofs.fields.digits_value.Goals as goal
 

@@ -1,4 +1,4 @@
-use Rattle.std.proofs.Common.{◌≡◌, ℕ, ◌+◌, rules, sym, ◌∙◌, ap, Ok, Err, Option, Result, refl, drop, arith, length}
+use Rattle.std.proofs.Common.{ℕ, ◌+◌, sym, ◌∙◌, ap, Option, Result, drop, arith}
 use Rattle.std.proofs.lemmas.List.{at_drop_all, at_drop_more}
 use Rattle.mt_http.specs.Parsed.{fields_at}
 use Rattle.mt_http.proofs.FieldLemmas.{go_on, then_go, go_on_none}

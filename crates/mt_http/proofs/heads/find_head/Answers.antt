@@ -1,5 +1,4 @@
-use Rattle.std.proofs.Common.{◌≡◌, ℕ, ◌≤◌, ◌-◌, min, arith, length, take, rules, refl}
-use Rattle.mt_http.specs.Bytes.{blank_len}
+use Rattle.std.proofs.Common.{arith}
 use Rattle.mt_http.proofs.HeadLemmas.{lacks_in_prefix, none_in_prefix, none_in_nothing}
 use Rattle.mt_http.proofs.heads.find_head.Goals as goal
 

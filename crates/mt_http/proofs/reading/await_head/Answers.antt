@@ -1,4 +1,4 @@
-use Rattle.std.proofs.Common.{◌≡◌, ℕ, arith, refl, rules, List, length, min, subst, ap, sym, ◌∙◌}
+use Rattle.std.proofs.Common.{◌≡◌, ℕ, arith, refl, List, length, min, subst, ap, sym, ◌∙◌}
 use Rattle.mt_http.specs.declared.TheConstants.{HEAD_LIMIT}
 use Rattle.mt_http.specs.Bytes.{blank_len}
 use Rattle.mt_http.specs.Places.{LacksHeadIn}

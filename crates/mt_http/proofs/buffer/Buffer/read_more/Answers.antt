@@ -1,7 +1,7 @@
-use Rattle.std.proofs.Common.{◌≡◌, ℕ, ◌+◌, ◌-◌, List, take, length, ap, subst, ◌∙◌, arith, Ok}
+use Rattle.std.proofs.Common.{◌+◌, take, subst, arith, Ok}
 use Rattle.mt_io.specs.declared.Failed.{Failed}
 use Rattle.mt_http.specs.Awaiting.{IsRead}
-use Rattle.mt_http.specs.Buffers.{Held, ahead}
+use Rattle.mt_http.specs.Buffers.{Held}
 use Rattle.mt_http.proofs.BufferLemmas.{read_is}
 use Rattle.mt_http.proofs.buffer.Buffer.read_more.Goals as goal
 

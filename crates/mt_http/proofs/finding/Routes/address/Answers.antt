@@ -6,7 +6,6 @@ use Rattle.matchit.specs.Router.{RouteOf}
 use Rattle.matchit.specs.Seek.{first}
 use Rattle.mt_http.specs.declared.routes.Address.{Address}
 use Rattle.mt_http.specs.Addresses.{routes_of}
-use Rattle.mt_http.specs.Finding.{path_of, query_of, IsFor, Finds}
 use Rattle.mt_http.proofs.WordLemmas.{parts_ascii}
 use Rattle.mt_http.proofs.FindLemmas.{finds_by}
 use Rattle.mt_http.proofs.finding.Routes.address.Goals as goal
