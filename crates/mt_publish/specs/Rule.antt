@@ -1,5 +1,5 @@
 -- Internal: the rule that every step at the shared table keeps, and what each kind of step tells the seat that makes it.
--- Word i is 1 while the slot i, with the copy that viewer i is shown, is in a hand, and else 0. Lists are those of a value.
+-- Word i is 1 while the slot i is in a hand, and else 0. A slot has a copy of the value, whose list is what a viewer that sits there is shown.
 use Rattle.std.specs.Prelude.{◌≡◌, ◌≢◌, ℕ, ◌+◌, ◌<◌, List, [], ◌∷◌, length, slice_index, Option, Some}
 use mathlib.Core.Option.{some}
 use mathlib.Core.List.{IsPrefix}
@@ -26,8 +26,8 @@ module _ {E : Type 0} (n : ℕ) (latest settled : List E) (shows : ℕ → List 
   Knows (Reading i x) = (shows i ≡ x) × HasSlot n words owner seat i
   Knows (Noted x) = IsPrefix x settled
 
--- There are n viewers. The latest list is the published one, and the settled list begins the list of each copy, `shows i` for viewer i, which begins the latest.
--- A slot in no hand has its copy. Each seat's role is true.
+-- There are n slots. The latest list is the published one, and the settled list begins that of each slot's copy, `shows i`, which begins the latest.
+-- A slot in no hand has its copy. What each seat's role says is true.
 pub record Kept {E A : Type 0} (listed : A → List E) (s : State (Option A) (Role E)) : Type 0 where
   pub n : ℕ
   pub latest : List E
@@ -66,7 +66,7 @@ module _ {E A : Type 0} where
   abbrev pub announced : (A → List E) → At A → Sat E A → ℕ → Sat E A → Type 0
   announced listed st m e m' = (m'.1 ≡ m.1) × ((x : List E) (a : A) → m.0 ≡ Resting x → st.said ≡ some (Some a) → m'.0 ≡ Handing (listed a) 0)
 
-  -- the publisher takes the next viewer's slot, where it is in no hand
+  -- the publisher takes the next slot, where it is in no hand
   abbrev pub reached : At A → Sat E A → ℕ → Sat E A → Type 0
   reached st m e m' = (x : List E) → m.0 ≡ Handing x st.word → (e ≡ 0 → (a : A) × (m'.0 ≡ Swapping x st.word) × (m'.1 ≡ (st.word, Some a) ∷ m.1)) × (e ≢ 0 → m' ≡ m)
 
@@ -74,7 +74,7 @@ module _ {E A : Type 0} where
   abbrev pub swapped : At A → Sat E A → ℕ → Sat E A → Type 0
   swapped st m e m' = (m'.1 ≡ []) × ((x : List E) → m.0 ≡ Swapping x st.word → m'.0 ≡ Handing x (st.word + 1))
 
-  -- every viewer's copy has the published list
+  -- every slot's copy has the published list
   abbrev pub rested : At A → Sat E A → ℕ → Sat E A → Type 0
   rested st m e m' = (m'.1 ≡ m.1) × ((x : List E) → m.0 ≡ Handing x st.slots → m'.0 ≡ Resting x)
 

@@ -1,5 +1,5 @@
-//! The table that the publisher and the viewers share. Slot i has the copy that viewer i is shown, and
-//! word i is 1 while that slot is in a hand, else 0.
+//! The table that the publisher and the viewers share. The slot of a viewer has the copy that it is
+//! shown, and the word of the same number is 1 while that slot is in a hand, else 0.
 ghost use Rattle.std.specs.Prelude.{[]};
 ghost use Rattle.std.specs.Arc.{arc_value};
 ghost use Rattle.mt_publish.specs.Stories.{story};

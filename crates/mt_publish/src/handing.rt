@@ -61,7 +61,7 @@ pub fn copy_of<V: Drop, R: Wait>(rt: &R, copy: &Arc<V>) -> Arc<V>
     unreachable!()
 }
 
-/// Waits until the viewer is not reading, and takes its slot.
+/// Waits until no viewer reads by the slot, and takes it.
 fn reach<V: Growing<E>, E: Drop, R: Wait>(
     rt: &R,
     shared: &SharedBoard<V, E>,
@@ -83,7 +83,7 @@ fn reach<V: Growing<E>, E: Drop, R: Wait>(
     unreachable!()
 }
 
-/// Gives each viewer the new copy, and waits for a viewer that is reading.
+/// Puts the new copy in each slot, and waits for a viewer that is reading.
 pub fn hand_out<V: Growing<E>, E: Drop, R: Wait>(
     rt: &R,
     shared: &SharedBoard<V, E>,

@@ -1,8 +1,9 @@
 //! The publisher, and how a publication is opened.
-ghost use Rattle.std.specs.Prelude.{◌≡◌, ◌<◌, ◌≤◌, [], ◌∷◌, ◌++◌, All, IsSomeAnd, length, IfOk, OnOk, MatchResult};
+ghost use Rattle.std.specs.Prelude.{◌≡◌, ◌*◌, ◌<◌, ◌≤◌, [], ◌∷◌, ◌++◌, All, IsSomeAnd, length, IfOk, OnOk, MatchResult};
 ghost use Rattle.std.specs.Arc.{arc_value};
 ghost use Rattle.mt_publish.specs.States.{IsNew, IsFrontOf};
 ghost use Rattle.mt_publish.specs.Stories.{story};
+ghost use Rattle.mt_publish.specs.declared.publisher.TheConstants.{SPREAD};
 ghost use Rattle.mt_publish.specs.declared.role.Role.TheVariants.{Noted};
 
 use crate::board::{Announce, Bases, Board, Fronts, Place};
@@ -16,12 +17,17 @@ use std::marker::Model;
 use std::snapshot::Snapshot;
 use std::sync::{Arc, Wait};
 
+/// So many words, of 8 bytes each, lie from one viewer's word to the next one's, and so many slots from
+/// slot to slot: 128 bytes, so that no two viewers change one line of a cache. Those between belong to no
+/// viewer, and a publish treats them like the others.
+const SPREAD: usize = 16;
+
 /// The one writer of a publication, which contracts see as the publication and the published list.
 #[derive(Drop)]
 pub struct Publisher<V: Growing<E>, E: Drop> {
     board: Arc<Board<V, E>>,
     place: Place<V, E>,
-    /// How many viewers were opened.
+    /// How many words and slots there are.
     count: usize,
     /// The copy that viewers are shown.
     shown: Arc<V>,
@@ -78,7 +84,7 @@ pub fn open<V: Growing<E>, E: Drop>(
     ensures count { IfOk result (λ o. length o.viewers.items ≡ viewers) }
     ensures viewers { IfOk result (λ o. All (IsNew o.publisher.publication) o.viewers.items) }
 {
-    let count = viewers as usize;
+    let count = SPREAD * viewers as usize;
     let about = Snapshot::of(&first);
     let shown = Arc::new(alloc, first)?;
     let spare = Arc::new(alloc, second)?;
@@ -102,7 +108,7 @@ pub fn open<V: Growing<E>, E: Drop>(
         spare,
         last: None,
     };
-    let viewers = seated(alloc, &mut publisher)?;
+    let viewers = seated(alloc, &mut publisher, viewers as usize)?;
     Ok(Opened { publisher, viewers })
 }
 
@@ -123,19 +129,22 @@ fn copies<V: Drop>(
     Ok(slots)
 }
 
-/// A viewer for each slot.
+/// So many viewers, each with a word and a slot.
 fn seated<V: Growing<E>, E: Drop>(
     alloc: Global,
     publisher: &mut Publisher<V, E>,
+    count: usize,
 ) -> Result<Vec<Viewer<V, E>>, AllocError>
+    requires words { SPREAD * count ≤ publisher.old.publication.identity.words }
+    requires slots { SPREAD * count ≤ publisher.old.publication.identity.slots }
     ensures same { OnOk result (publisher.new ≡ publisher.old) }
-    ensures count { IfOk result (λ v. length v.items ≡ publisher.old.publication.identity.words) }
+    ensures count { IfOk result (λ v. length v.items ≡ count) }
     ensures viewers { IfOk result (λ v. All (IsNew publisher.old.publication) v.items) }
 {
     let mut viewers = Vec::new(alloc);
-    for i in 0..publisher.count {
+    for i in 0..count {
         let base = publisher.tell_base();
-        let viewer = Viewer::seat(&publisher.board, i, base)?;
+        let viewer = Viewer::seat(&publisher.board, SPREAD * i, base)?;
         viewers.push(viewer)?;
     }
     Ok(viewers)

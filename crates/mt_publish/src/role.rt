@@ -13,13 +13,13 @@ pub enum Role<I> {
     Spent,
     /// The publisher between two calls, with the published list.
     Resting(LinkedList<I>),
-    /// The publisher with the published list, and how many viewers' copies have it.
+    /// The publisher with the published list, and how many slots' copies have it.
     Handing(LinkedList<I>, u64),
-    /// The same, with the next viewer's slot in hand.
+    /// The same, with the next slot in hand.
     Swapping(LinkedList<I>, u64),
-    /// A viewer's number, the list of its last view, and the lists that it learnt since.
+    /// The number of a viewer's slot, the list of its last view, and the lists that it learnt since.
     Seated(u64, LinkedList<I>, LinkedList<LinkedList<I>>),
-    /// A viewer's number, with its slot in hand, and the list that it is shown.
+    /// The number of a viewer's slot, which it has in hand, and the list that it is shown.
     Reading(u64, LinkedList<I>),
     /// A front, with a list that every copy's list extends.
     Noted(LinkedList<I>),

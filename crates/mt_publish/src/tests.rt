@@ -1,5 +1,6 @@
-ghost use Rattle.std.specs.Prelude.{◌≡◌, ◌<◌, ◌≤◌, ◌++◌, ◌∷◌, [], length, IfOk, IfSome, vec_len, vec_capacity};
+ghost use Rattle.std.specs.Prelude.{◌≡◌, ◌<◌, ◌≤◌, ◌++◌, ◌∷◌, [], All, length, IfOk, IfSome, vec_len, vec_capacity};
 ghost use mathlib.Core.List.{IsPrefix};
+ghost use Rattle.mt_publish.specs.States.{IsNew};
 
 use crate::{Front, Growing, Opened, Publisher, Viewer, open};
 use crossbeam_utils::Backoff;
@@ -64,6 +65,35 @@ struct Watcher {
     ghost one: { front.identity ≡ viewer.publication.identity },
 }
 
+/// The last of the new viewers, where there is one.
+fn pop_new(
+    viewers: &mut Vec<Viewer<Numbers, u64>>,
+    publisher: &Publisher<Numbers, u64>,
+) -> Option<Viewer<Numbers, u64>>
+    requires { All (IsNew publisher.now.publication) viewers.old.items }
+    ensures viewer { IfSome result (IsNew publisher.now.publication) }
+    ensures others { All (IsNew publisher.now.publication) viewers.new.items }
+{
+    viewers.pop()
+}
+
+/// Publishes the number, where there is room, for a viewer that has not learnt it yet.
+fn watcher<R: Wait>(
+    rt: &R,
+    publisher: &mut Publisher<Numbers, u64>,
+    viewer: Viewer<Numbers, u64>,
+    entry: u64,
+) -> Option<Watcher>
+    requires { viewer.publication ≡ publisher.old.publication }
+    ensures { publisher.new.publication ≡ publisher.old.publication }
+{
+    if publisher.front().len() >= ROOM as u32 {
+        return None;
+    }
+    let front = publisher.publish(rt, entry).ok()?;
+    Some(Watcher { viewer, front })
+}
+
 /// Publishes an entry and tells the viewer, whose next view has it.
 fn tell_and_view<R: Wait>(
     rt: &R,
@@ -82,15 +112,24 @@ fn tell_and_view<R: Wait>(
     viewer.view(|numbers: &Numbers| numbers.entries())
 }
 
+/// Publishes the number, where there is room, and gives the length of the front.
+fn add<R: Wait>(rt: &R, publisher: &mut Publisher<Numbers, u64>, entry: u64) -> Option<u32> {
+    if publisher.front().len() >= ROOM as u32 {
+        return None;
+    }
+    Some(publisher.publish(rt, entry).ok()?.len())
+}
+
 /// Publishes the numbers from one up to another, and gives the length of the last front.
-fn add_numbers<R: Wait>(rt: &R, publisher: &mut Publisher<Numbers, u64>, from: u64, to: u64) -> u32 {
-    let mut length = publisher.front().len();
+fn add_numbers<R: Wait>(
+    rt: &R,
+    publisher: &mut Publisher<Numbers, u64>,
+    from: u64,
+    to: u64,
+) -> Option<u32> {
+    let mut length = None;
     for entry in from..to {
-        if length < ROOM as u32 {
-            if let Ok(front) = publisher.publish(rt, entry) {
-                length = front.len();
-            }
-        }
+        length = add(rt, publisher, entry);
     }
     length
 }
@@ -136,13 +175,22 @@ fn viewers_beside_the_publisher(rt: HostRuntime) -> Result<(), Fail> {
         mut publisher,
         mut viewers,
     } = open(alloc, first, second, 3)?;
-    let (Some(c), Some(b), Some(a)) = (viewers.pop(), viewers.pop(), viewers.pop()) else {
+    let Some(a) = pop_new(&mut viewers, &publisher) else {
         return Err(Fail::new("no viewer"));
     };
+    let Some(b) = pop_new(&mut viewers, &publisher) else {
+        return Err(Fail::new("one viewer"));
+    };
+    let Some(c) = pop_new(&mut viewers, &publisher) else {
+        return Err(Fail::new("two viewers"));
+    };
     assert_eq!(rt; (a.shown(), a.missed()), (0, 0));
-    let a = Watcher { viewer: a, front: publisher.publish(&rt, 0)? };
-    let b = Watcher { viewer: b, front: publisher.publish(&rt, 1)? };
-    let c = Watcher { viewer: c, front: publisher.publish(&rt, 2)? };
+    let a = watcher(&rt, &mut publisher, a, 0);
+    let b = watcher(&rt, &mut publisher, b, 1);
+    let c = watcher(&rt, &mut publisher, c, 2);
+    let (Some(a), Some(b), Some(c)) = (a, b, c) else {
+        return Err(Fail::new("no room"));
+    };
     let (published, (a, (b, c))) = join(
         &rt,
         || add_numbers(&rt, &mut publisher, 3, PUBLISHED as u64),
@@ -154,7 +202,7 @@ fn viewers_beside_the_publisher(rt: HostRuntime) -> Result<(), Fail> {
             )
         },
     );
-    assert_eq!(rt; published, PUBLISHED as u32);
+    assert_eq!(rt; published, Some(PUBLISHED as u32));
     let (Some(mut a), Some(b), Some(c)) = (a, b, c) else {
         return Err(Fail::new("a list that does not follow"));
     };
@@ -223,7 +271,7 @@ fn a_view_beside_a_publish_that_waits(rt: HostRuntime) -> Result<(), Fail> {
             )
         },
     );
-    assert_eq!(rt; published, (true, 1, true));
+    assert_eq!(rt; published, (true, Some(1), true));
     assert_eq!(rt; read, Some((true, 0)));
     assert!(rt; viewed);
     Ok(())
@@ -240,10 +288,9 @@ fn a_learnt_front_is_seen(rt: HostRuntime) -> Result<(), Fail> {
     let Some(mut viewer) = viewers.pop() else {
         return Err(Fail::new("no viewer"));
     };
-    assert_eq!(rt; tell_and_view(&rt, &mut publisher, &mut viewer, 5), Some(1));
-    assert_eq!(rt; (viewer.shown(), viewer.missed()), (1, 0));
-    let front = publisher.publish(&rt, 6)?;
+    let front = publisher.publish(&rt, 5)?;
     viewer.learn(front);
-    assert_eq!(rt; viewer.shown(), 2);
+    assert_eq!(rt; (viewer.shown(), viewer.missed()), (1, 0));
+    assert_eq!(rt; tell_and_view(&rt, &mut publisher, &mut viewer, 6), Some(2));
     Ok(())
 }
