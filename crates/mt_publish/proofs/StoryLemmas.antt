@@ -1,5 +1,5 @@
 -- Stories of one base, and what they tell of entries.
-use Rattle.std.proofs.Common.{arith, ◌≡◌, ℕ, zero, suc, ◌<◌, List, length, [], ◌∷◌, ◌++◌, map, refl, sym, ap, ◌∙◌, subst}
+use Rattle.std.proofs.Common.{arith, ◌≡◌, ℕ, zero, suc, List, [], ◌∷◌, ◌++◌, map, refl, sym, ap, ◌∙◌}
 use mathlib.Core.List.{IsPrefix, map-append}
 use Rattle.mt_publish.specs.declared.role.Item.{Item}
 use Rattle.mt_publish.specs.declared.role.Item.TheVariants.{Base, Entry}

@@ -42,41 +42,41 @@ pub record Kept {E A : Type 0} (listed : A → List E) (s : State (Option A) (Ro
   pub home : (i : ℕ) → i < n → slice_index s.words i ≡ 0 → (a : A) × (get_elem? s.homes i ≡ some (some (Some a))) × (listed a ≡ shows i)
   pub seats : (j : ℕ) (r : Role E) → get_elem? s.views j ≡ some r → Knows n latest settled shows s.words owner writer j r
 
-abbrev Sat : Type 0 → Type 0 → Type 0
-Sat E A = Me (Option A) (Role E)
+abbrev SeatState : Type 0 → Type 0 → Type 0
+SeatState E A = Me (Option A) (Role E)
 
-abbrev At : Type 0 → Type 0
-At A = Step (Option A)
+abbrev StepAt : Type 0 → Type 0
+StepAt A = Step (Option A)
 
 module _ {E A : Type 0} where
   -- a new viewer
-  abbrev pub sat : At A → Sat E A → ℕ → Sat E A → Type 0
-  sat st m e m' = m'.0 ≡ Seated st.word [] []
+  abbrev pub sat : StepAt A → SeatState E A → ℕ → SeatState E A → Type 0
+  sat turn before found after = after.0 ≡ Seated turn.word [] []
 
   -- a viewer takes its slot, where it is in no hand: the copy's list extends all that the viewer saw and learnt
-  abbrev pub entered : (A → List E) → At A → Sat E A → ℕ → Sat E A → Type 0
-  entered listed st m e m' = (x : List E) (ls : List (List E)) → m.0 ≡ Seated st.word x ls
-      → (e ≡ 0 → (a : A) × (m'.0 ≡ Reading st.word (listed a)) × (m'.1 ≡ (st.word, Some a) ∷ m.1) × IsPrefix x (listed a) × AllPrefixes (listed a) ls) × (e ≢ 0 → m' ≡ m)
+  abbrev pub entered : (A → List E) → StepAt A → SeatState E A → ℕ → SeatState E A → Type 0
+  entered listed turn before found after = (x : List E) (ls : List (List E)) → before.0 ≡ Seated turn.word x ls
+      → (found ≡ 0 → (a : A) × (after.0 ≡ Reading turn.word (listed a)) × (after.1 ≡ (turn.word, Some a) ∷ before.1) × IsPrefix x (listed a) × AllPrefixes (listed a) ls) × (found ≢ 0 → after ≡ before)
 
   -- a viewer gives its slot back, and has seen the copy's list
-  abbrev pub left : At A → Sat E A → ℕ → Sat E A → Type 0
-  left st m e m' = (m'.1 ≡ []) × ((x : List E) → m.0 ≡ Reading st.word x → m'.0 ≡ Seated st.word x [])
+  abbrev pub left : StepAt A → SeatState E A → ℕ → SeatState E A → Type 0
+  left turn before found after = (after.1 ≡ []) × ((x : List E) → before.0 ≡ Reading turn.word x → after.0 ≡ Seated turn.word x [])
 
   -- the published list becomes that of the copy which the step names
-  abbrev pub announced : (A → List E) → At A → Sat E A → ℕ → Sat E A → Type 0
-  announced listed st m e m' = (m'.1 ≡ m.1) × ((x : List E) (a : A) → m.0 ≡ Resting x → st.said ≡ some (Some a) → m'.0 ≡ Handing (listed a) 0)
+  abbrev pub announced : (A → List E) → StepAt A → SeatState E A → ℕ → SeatState E A → Type 0
+  announced listed turn before found after = (after.1 ≡ before.1) × ((x : List E) (a : A) → before.0 ≡ Resting x → turn.said ≡ some (Some a) → after.0 ≡ Handing (listed a) 0)
 
   -- the publisher takes the next slot, where it is in no hand
-  abbrev pub reached : At A → Sat E A → ℕ → Sat E A → Type 0
-  reached st m e m' = (x : List E) → m.0 ≡ Handing x st.word → (e ≡ 0 → (a : A) × (m'.0 ≡ Swapping x st.word) × (m'.1 ≡ (st.word, Some a) ∷ m.1)) × (e ≢ 0 → m' ≡ m)
+  abbrev pub reached : StepAt A → SeatState E A → ℕ → SeatState E A → Type 0
+  reached turn before found after = (x : List E) → before.0 ≡ Handing x turn.word → (found ≡ 0 → (a : A) × (after.0 ≡ Swapping x turn.word) × (after.1 ≡ (turn.word, Some a) ∷ before.1)) × (found ≢ 0 → after ≡ before)
 
   -- the publisher gives the slot back, with a copy of the published list
-  abbrev pub swapped : At A → Sat E A → ℕ → Sat E A → Type 0
-  swapped st m e m' = (m'.1 ≡ []) × ((x : List E) → m.0 ≡ Swapping x st.word → m'.0 ≡ Handing x (st.word + 1))
+  abbrev pub swapped : StepAt A → SeatState E A → ℕ → SeatState E A → Type 0
+  swapped turn before found after = (after.1 ≡ []) × ((x : List E) → before.0 ≡ Swapping x turn.word → after.0 ≡ Handing x (turn.word + 1))
 
   -- every slot's copy has the published list
-  abbrev pub rested : At A → Sat E A → ℕ → Sat E A → Type 0
-  rested st m e m' = (m'.1 ≡ m.1) × ((x : List E) → m.0 ≡ Handing x st.slots → m'.0 ≡ Resting x)
+  abbrev pub rested : StepAt A → SeatState E A → ℕ → SeatState E A → Type 0
+  rested turn before found after = (after.1 ≡ before.1) × ((x : List E) → before.0 ≡ Handing x turn.slots → after.0 ≡ Resting x)
 
 module _ {E : Type 0} where
   -- a front of the published list

@@ -77,11 +77,12 @@ pub struct Announce<V> {
     of: PhantomData<V>,
 }
 
-impl<V: Growing<E>, E> Play<Option<Arc<V>>, Role<Item<<V as Growing<E>>::Base, E>>> for Announce<V> {
+impl<V: Growing<E>, E> Play<Option<Arc<V>>, Role<Item<<V as Growing<E>>::Base, E>>>
+    for Announce<V> {
     ghost then = { announced (λ a. story (V.base (arc_value a)) (V.listed (arc_value a))) };
 }
 
-/// The publisher takes the next viewer's slot.
+/// The publisher takes the next slot.
 pub struct Reach;
 
 impl<V, I> Play<Option<Arc<V>>, Role<I>> for Reach {
@@ -95,7 +96,7 @@ impl<V, I> Play<Option<Arc<V>>, Role<I>> for GiveBack {
     ghost then = { swapped };
 }
 
-/// Every viewer has the new copy.
+/// Every slot has the new copy.
 pub struct Rest;
 
 impl<V, I> Play<Option<Arc<V>>, Role<I>> for Rest {

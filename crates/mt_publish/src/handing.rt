@@ -68,7 +68,8 @@ fn reach<V: Growing<E>, E: Drop, R: Wait>(
     place: &mut Place<V, E>,
     i: usize,
 )
-    requires table { (place.old.table_id ≡ shared.now.table_id) × (i < shared.now.table_id.words) × (i < shared.now.table_id.slots) }
+    requires table { place.old.table_id ≡ shared.now.table_id }
+    requires inside { (i < shared.now.table_id.words) × (i < shared.now.table_id.slots) }
     requires handing { place.old.me ≡ (Handing (list_of place.old.me.0) i, []) }
     ensures same { (place.new.table_id ≡ place.old.table_id) × (place.new.id ≡ place.old.id) }
     ensures took { (a : _) × (place.new.me ≡ (Swapping (list_of place.old.me.0) i, (i, Some a) ∷ [])) }
@@ -91,7 +92,8 @@ pub fn hand_out<V: Growing<E>, E: Drop, R: Wait>(
     count: usize,
     new: &Arc<V>,
 )
-    requires table { (place.old.table_id ≡ shared.now.table_id) × (shared.now.table_id.words ≡ count) × (shared.now.table_id.slots ≡ count) × (0 < count) }
+    requires table { place.old.table_id ≡ shared.now.table_id }
+    requires count { (shared.now.table_id.words ≡ count) × (shared.now.table_id.slots ≡ count) × (0 < count) }
     requires handing { place.old.me ≡ (Handing (story (V.base (arc_value new.now)) (V.listed (arc_value new.now))) 0, []) }
     ensures same { (place.new.table_id ≡ place.old.table_id) × (place.new.id ≡ place.old.id) }
     ensures rests { place.new.me ≡ (Resting (story (V.base (arc_value new.now)) (V.listed (arc_value new.now))), []) }

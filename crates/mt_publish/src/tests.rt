@@ -78,7 +78,7 @@ fn pop_new(
 }
 
 /// Publishes the number, where there is room, for a viewer that has not learnt it yet.
-fn watcher<R: Wait>(
+fn told_watcher<R: Wait>(
     rt: &R,
     publisher: &mut Publisher<Numbers, u64>,
     viewer: Viewer<Numbers, u64>,
@@ -156,12 +156,20 @@ fn watch(alloc: Global, watcher: Watcher) -> Option<Viewer<Numbers, u64>> {
         last.push(entry).ok()?;
     }
     viewer.learn(front);
+    let backoff = Backoff::new();
     for _ in 0..TURNS {
-        if !viewer.view(|numbers: &Numbers| follows(numbers, &mut last)).unwrap_or(true) {
+        let before = last.len();
+        if !viewer
+            .view(|numbers: &Numbers| follows(numbers, &mut last))
+            .unwrap_or(true)
+        {
             return None;
         }
         if last.len() == PUBLISHED {
             return Some(viewer);
+        }
+        if last.len() == before {
+            backoff.snooze();
         }
     }
     None
@@ -185,9 +193,9 @@ fn viewers_beside_the_publisher(rt: HostRuntime) -> Result<(), Fail> {
         return Err(Fail::new("two viewers"));
     };
     assert_eq!(rt; (a.shown(), a.missed()), (0, 0));
-    let a = watcher(&rt, &mut publisher, a, 0);
-    let b = watcher(&rt, &mut publisher, b, 1);
-    let c = watcher(&rt, &mut publisher, c, 2);
+    let a = told_watcher(&rt, &mut publisher, a, 0);
+    let b = told_watcher(&rt, &mut publisher, b, 1);
+    let c = told_watcher(&rt, &mut publisher, c, 2);
     let (Some(a), Some(b), Some(c)) = (a, b, c) else {
         return Err(Fail::new("no room"));
     };
@@ -236,6 +244,7 @@ fn sees_the_first(viewer: &mut Viewer<Numbers, u64>) -> bool {
     false
 }
 
+/// The publisher waits for the reader, and the viewer, whose slot comes before, sees the entry meanwhile.
 #[test]
 fn a_view_beside_a_publish_that_waits(rt: HostRuntime) -> Result<(), Fail> {
     let alloc = rt.alloc();
@@ -252,7 +261,11 @@ fn a_view_beside_a_publish_that_waits(rt: HostRuntime) -> Result<(), Fail> {
         &rt,
         || {
             let reads = is_set(&reads);
-            (reads, add_numbers(&rt, &mut publisher, 0, 1), was_seen.load(Ordering::SeqCst))
+            (
+                reads,
+                add_numbers(&rt, &mut publisher, 0, 1),
+                was_seen.load(Ordering::SeqCst),
+            )
         },
         || {
             join(

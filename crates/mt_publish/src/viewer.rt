@@ -9,7 +9,7 @@ ghost use Rattle.mt_publish.specs.Stories.{story};
 ghost use Rattle.mt_publish.specs.Rule.{list_of, learnt_of};
 ghost use Rattle.mt_publish.specs.declared.role.Role.TheVariants.{Seated, Reading, Noted};
 
-use crate::board::{Bases, Board, Enter, Fronts, Leave, Place, Sit, SharedBoard};
+use crate::board::{Bases, Board, Enter, Fronts, Leave, Place, SharedBoard, Sit};
 use crate::front::Front;
 use crate::growing::Growing;
 use crossbeam_utils::Backoff;
@@ -51,19 +51,30 @@ impl<V: Growing<E>, E> Model for Viewer<V, E> {
 
     ghost invariant = { λ v. (v.place.table_id ≡ (arc_value v.board).shared.table_id)
         × (v.index < v.place.table_id.words) × (v.index < v.place.table_id.slots)
-        × (v.place.me ≡ (Seated v.index (story (V.base (arc_value v.board).shared.key.value) (entries_of (list_of v.place.me.0))) (learnt_of v.place.me.0), []))
-        × (v.most ≡ max (length (entries_of (list_of v.place.me.0))) (longest (map entries_of (learnt_of v.place.me.0)))) };
+        × (v.place.me ≡ (
+          Seated v.index
+              (story (V.base (arc_value v.board).shared.key.value) (entries_of (list_of v.place.me.0)))
+              (learnt_of v.place.me.0),
+          [],
+        ))
+        × (v.most ≡ max (length (entries_of (list_of v.place.me.0)))
+        (longest (map entries_of (learnt_of v.place.me.0)))) };
 }
 
 /// Takes the viewer's slot, where within some tries nobody else has it in hand.
-fn enter<V: Growing<E>, E>(shared: &SharedBoard<V, E>, place: &mut Place<V, E>, index: usize) -> bool
-    requires table { (place.old.table_id ≡ shared.now.table_id) × (index < shared.now.table_id.words) × (index < shared.now.table_id.slots) }
+fn enter<V: Growing<E>, E>(
+    shared: &SharedBoard<V, E>,
+    place: &mut Place<V, E>,
+    index: usize,
+) -> bool
+    requires table { place.old.table_id ≡ shared.now.table_id }
+    requires inside { (index < shared.now.table_id.words) × (index < shared.now.table_id.slots) }
     requires viewer { place.old.me ≡ (Seated index (list_of place.old.me.0) (learnt_of place.old.me.0), []) }
     ensures same { place.new.table_id ≡ place.old.table_id }
     ensures entered { MatchBool result ((a : _)
-            × (place.new.me ≡ (Reading index (story (V.base (arc_value a)) (V.listed (arc_value a))), (index, Some a) ∷ []))
-            × IsPrefix (list_of place.old.me.0) (story (V.base (arc_value a)) (V.listed (arc_value a)))
-            × AllPrefixes (story (V.base (arc_value a)) (V.listed (arc_value a))) (learnt_of place.old.me.0))
+        × (place.new.me ≡ (Reading index (story (V.base (arc_value a)) (V.listed (arc_value a))), (index, Some a) ∷ []))
+        × IsPrefix (list_of place.old.me.0) (story (V.base (arc_value a)) (V.listed (arc_value a)))
+        × AllPrefixes (story (V.base (arc_value a)) (V.listed (arc_value a))) (learnt_of place.old.me.0))
         (place.new.me ≡ place.old.me) }
 {
     let backoff = Backoff::new();
