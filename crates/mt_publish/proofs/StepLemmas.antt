@@ -15,7 +15,7 @@ use Rattle.mt_publish.specs.declared.role.Role.{Role}
 use Rattle.mt_publish.specs.declared.role.Role.TheVariants.{Spent, Resting, Handing, Swapping, Seated, Reading, Noted}
 use Rattle.mt_publish.specs.declared.role.Item.{Item}
 use Rattle.mt_publish.specs.declared.role.Item.TheVariants.{Base, Entry}
-use Rattle.mt_publish.specs.Rule.{HasSlot, Knows, Kept, sat, entered, left, announced, reached, swapped, rested, front_of, told, begun, base_of, list_of}
+use Rattle.mt_publish.specs.Rule.{HasSlot, Knows, Kept, sat, entered, returned, announced, reached, swapped, rested, front_of, told, begun, base_of, list_of}
 
 module _ {E : Type 0} where
   pub prefix_self : (xs : List E) → IsPrefix xs xs
@@ -38,18 +38,18 @@ module _ {E : Type 0} where
   begin_further x y ls p h k d q = prefix_trans (get_or ls k d) x y (h k d q) p
 
 module _ {X : Type 0} where
-  abbrev pick : {P : Type 0} → Dec P → X → X → X
-  pick (yes _) a b = a
-  pick (no _) a b = b
+  abbrev if_yes : {P : Type 0} → Dec P → X → X → X
+  if_yes (yes _) a b = a
+  if_yes (no _) a b = b
 
   put : (ℕ → X) → ℕ → X → ℕ → X
-  put f i c j = pick (ℕ_discrete j i) c (f j)
+  put f i c j = if_yes (ℕ_discrete j i) c (f j)
 
   put_here : (f : ℕ → X) (i : ℕ) (c : X) → put f i c i ≡ c
   unfolding put
   put_here f i c = go (ℕ_discrete i i)
     where
-      go : (d : Dec (i ≡ i)) → pick d c (f i) ≡ c
+      go : (d : Dec (i ≡ i)) → if_yes d c (f i) ≡ c
       go (yes _) = refl
       go (no n) = absurd (n refl)
 
@@ -57,7 +57,7 @@ module _ {X : Type 0} where
   unfolding put
   put_else f i c j other = go (ℕ_discrete j i)
     where
-      go : (d : Dec (j ≡ i)) → pick d c (f j) ≡ f j
+      go : (d : Dec (j ≡ i)) → if_yes d c (f j) ≡ f j
       go (yes e) = absurd (other e)
       go (no _) = refl
 
@@ -205,7 +205,7 @@ module _ {E A : Type 0} (listed : A → List E) where
       ups k = dite (ℕ_discrete k i) (λ e. subst (λ m. IsPrefix (r.shows m) (put r.shows i x m)) (sym e) (subst (IsPrefix (r.shows i)) (sym (put_here r.shows i x)) up))
           (λ ne. same_prefix (r.shows k) (put r.shows i x k) (sym (put_else r.shows i x k ne)))
 
-  leaves : (slots id i : ℕ) (x : List E) (a : A) → listed a ≡ x → Allows Rule slots id (Reading i x, (i, Some a) ∷ []) i (λ _. 0) (λ _. left (step slots i 0 0 none) (Reading i x, (i, Some a) ∷ []) 0)
+  leaves : (slots id i : ℕ) (x : List E) (a : A) → listed a ≡ x → Allows Rule slots id (Reading i x, (i, Some a) ∷ []) i (λ _. 0) (λ _. returned (step slots i 0 0 none) (Reading i x, (i, Some a) ∷ []) 0)
   leaves slots id i x a shows s r deep at small = let known = r.seats id (Reading i x) at in (
     Seated i x [],
     gives,
@@ -215,8 +215,8 @@ module _ {E A : Type 0} (listed : A → List E) where
     (refl, λ x' is'. ap (λ v. Seated i (list_of v) []) is'),
   )
 
-  pub leaving : (slots id i : ℕ) (me : M) (x : List E) (a : A) → me ≡ (Reading i x, (i, Some a) ∷ []) → listed a ≡ x → Allows Rule slots id me i (λ _. 0) (λ _. left (step slots i 0 0 none) me 0)
-  leaving slots id i me x a is shows = subst (λ m. Allows Rule slots id m i (λ _. 0) (λ _. left (step slots i 0 0 none) m 0)) (sym is) (leaves slots id i x a shows)
+  pub leaving : (slots id i : ℕ) (me : M) (x : List E) (a : A) → me ≡ (Reading i x, (i, Some a) ∷ []) → listed a ≡ x → Allows Rule slots id me i (λ _. 0) (λ _. returned (step slots i 0 0 none) me 0)
+  leaving slots id i me x a is shows = subst (λ m. Allows Rule slots id m i (λ _. 0) (λ _. returned (step slots i 0 0 none) m 0)) (sym is) (leaves slots id i x a shows)
 
   swaps : (slots id i : ℕ) (x : List E) (a : A) → listed a ≡ x → Allows Rule slots id (Swapping x i, (i, Some a) ∷ []) i (λ _. 0) (λ _. swapped (step slots i 0 0 none) (Swapping x i, (i, Some a) ∷ []) 0)
   swaps slots id i x a shows s r deep at small = let known = r.seats id (Swapping x i) at in (

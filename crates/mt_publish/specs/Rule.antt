@@ -59,8 +59,8 @@ module _ {E A : Type 0} where
       → (found ≡ 0 → (a : A) × (after.0 ≡ Reading turn.word (listed a)) × (after.1 ≡ (turn.word, Some a) ∷ before.1) × IsPrefix x (listed a) × AllPrefixes (listed a) ls) × (found ≢ 0 → after ≡ before)
 
   -- a viewer gives its slot back, and has seen the copy's list
-  abbrev pub left : StepAt A → SeatState E A → ℕ → SeatState E A → Type 0
-  left turn before found after = (after.1 ≡ []) × ((x : List E) → before.0 ≡ Reading turn.word x → after.0 ≡ Seated turn.word x [])
+  abbrev pub returned : StepAt A → SeatState E A → ℕ → SeatState E A → Type 0
+  returned turn before found after = (after.1 ≡ []) × ((x : List E) → before.0 ≡ Reading turn.word x → after.0 ≡ Seated turn.word x [])
 
   -- the published list becomes that of the copy which the step names
   abbrev pub announced : (A → List E) → StepAt A → SeatState E A → ℕ → SeatState E A → Type 0

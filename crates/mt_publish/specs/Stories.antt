@@ -9,7 +9,7 @@ module _ {B E : Type 0} where
   story b xs = Base b ∷ map Entry xs
 
   -- the entries of a story
-  abbrev pub entries_of : List (Item B E) → List E
-  entries_of [] = []
-  entries_of (Base b ∷ r) = entries_of r
-  entries_of (Entry e ∷ r) = e ∷ entries_of r
+  abbrev pub story_entries : List (Item B E) → List E
+  story_entries [] = []
+  story_entries (Base b ∷ r) = story_entries r
+  story_entries (Entry e ∷ r) = e ∷ story_entries r

@@ -3,7 +3,7 @@
 ghost use Rattle.std.specs.Prelude.{[]};
 ghost use Rattle.std.specs.Arc.{arc_value};
 ghost use Rattle.mt_publish.specs.Stories.{story};
-ghost use Rattle.mt_publish.specs.Rule.{Kept, sat, entered, left, announced, reached, swapped, rested, front_of, told, base_of, begun};
+ghost use Rattle.mt_publish.specs.Rule.{Kept, sat, entered, returned, announced, reached, swapped, rested, front_of, told, base_of, begun};
 ghost use Rattle.mt_publish.specs.declared.role.Role.TheVariants.{Spent, Resting};
 
 use crate::growing::Growing;
@@ -69,7 +69,7 @@ impl<V: Growing<E>, E> Play<Option<Arc<V>>, Role<Item<<V as Growing<E>>::Base, E
 pub struct Leave;
 
 impl<V, I> Play<Option<Arc<V>>, Role<I>> for Leave {
-    ghost then = { left };
+    ghost then = { returned };
 }
 
 /// The publisher makes the list of a copy the published one.

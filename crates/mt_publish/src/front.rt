@@ -13,16 +13,16 @@ pub struct Front<V: Growing<E>, E> {
 impl<V: Growing<E>, E> Model for Front<V, E> {
     ghost use Rattle.std.specs.Prelude.{◌≡◌, [], length};
     ghost use Rattle.mt_publish.specs.States.{FrontState};
-    ghost use Rattle.mt_publish.specs.Stories.{entries_of};
+    ghost use Rattle.mt_publish.specs.Stories.{story_entries};
     ghost use Rattle.mt_publish.specs.Rule.{list_of};
     ghost use Rattle.mt_publish.specs.declared.role.Role.TheVariants.{Noted};
 
     ghost Value = { FrontState E };
 
-    ghost view = { λ f. record { identity = f.place.table_id; list = entries_of (list_of f.place.me.0) } };
+    ghost view = { λ f. record { identity = f.place.table_id; list = story_entries (list_of f.place.me.0) } };
 
     ghost invariant = { λ f. (f.place.me ≡ (Noted (list_of f.place.me.0), []))
-        × (f.len ≡ length (entries_of (list_of f.place.me.0))) };
+        × (f.len ≡ length (story_entries (list_of f.place.me.0))) };
 }
 
 impl<V: Growing<E>, E> Front<V, E> {

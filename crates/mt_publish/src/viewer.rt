@@ -36,7 +36,7 @@ impl<V: Growing<E>, E> Model for Viewer<V, E> {
     ghost use Rattle.std.specs.Arc.{arc_value};
     ghost use Rattle.mt_publish.specs.Prefixes.{longest};
     ghost use Rattle.mt_publish.specs.States.{ViewerState};
-    ghost use Rattle.mt_publish.specs.Stories.{story, entries_of};
+    ghost use Rattle.mt_publish.specs.Stories.{story, story_entries};
     ghost use Rattle.mt_publish.specs.Rule.{list_of, learnt_of};
     ghost use Rattle.mt_publish.specs.declared.role.Role.TheVariants.{Seated};
 
@@ -44,8 +44,8 @@ impl<V: Growing<E>, E> Model for Viewer<V, E> {
 
     ghost view = { λ v. record {
       publication = record { identity = v.place.table_id; base = V.base (arc_value v.board).shared.key.value };
-      seen = entries_of (list_of v.place.me.0);
-      learnt = map entries_of (learnt_of v.place.me.0);
+      seen = story_entries (list_of v.place.me.0);
+      learnt = map story_entries (learnt_of v.place.me.0);
       missed = v.missed;
     } };
 
@@ -53,12 +53,12 @@ impl<V: Growing<E>, E> Model for Viewer<V, E> {
         × (v.index < v.place.table_id.words) × (v.index < v.place.table_id.slots)
         × (v.place.me ≡ (
           Seated v.index
-              (story (V.base (arc_value v.board).shared.key.value) (entries_of (list_of v.place.me.0)))
+              (story (V.base (arc_value v.board).shared.key.value) (story_entries (list_of v.place.me.0)))
               (learnt_of v.place.me.0),
           [],
         ))
-        × (v.most ≡ max (length (entries_of (list_of v.place.me.0)))
-        (longest (map entries_of (learnt_of v.place.me.0)))) };
+        × (v.most ≡ max (length (story_entries (list_of v.place.me.0)))
+        (longest (map story_entries (learnt_of v.place.me.0)))) };
 }
 
 /// Takes the viewer's slot, where within some tries nobody else has it in hand.

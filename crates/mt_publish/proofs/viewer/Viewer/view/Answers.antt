@@ -3,7 +3,7 @@ use Rattle.std.specs.Arc.{arc_value}
 use mathlib.Core.List.{IsPrefix}
 use Rattle.atomic_table.specs.Table.{rest}
 use Rattle.mt_publish.specs.Prefixes.{AllPrefixes}
-use Rattle.mt_publish.specs.Stories.{story, entries_of}
+use Rattle.mt_publish.specs.Stories.{story, story_entries}
 use Rattle.mt_publish.specs.Prefixes.{longest}
 use Rattle.mt_publish.specs.Rule.{list_of, learnt_of}
 use Rattle.mt_publish.specs.declared.role.Role.TheVariants.{Seated, Reading}
@@ -40,7 +40,7 @@ invariant_of-self-2 g c = let took = c.if-not-enter.ensures.entered in let i = c
       search rules,
       search rules,
       seated _ i b xs [] here,
-      n ∙ (most ∙ (λ k. max (length (sym (seated_entries _ i b xs [] here) k)) (longest (map entries_of (sym (seated_learnt _ i b xs [] here) k))))),
+      n ∙ (most ∙ (λ k. max (length (sym (seated_entries _ i b xs [] here) k)) (longest (map story_entries (sym (seated_learnt _ i b xs [] here) k))))),
     )
 
 pub returns-clause-extends : goal.returns-clause-extends
@@ -51,10 +51,10 @@ returns-clause-extends g c = let took = c.if-not-enter.ensures.entered in let i 
     let back : c.store.new.seat.me.0 ≡ Seated i x [] = c.store.ensures.2.1 _ at in
     let e = g.row.E.Denot in (
       (
-        subst (λ (z : List e × List e). IsPrefix z.0 z.1) (λ k. ((c.self.view_is k).seen, entries_of (list_of (sym back k)))) (entries_begin _ x took.2),
-        subst (λ (z : List (List e) × List e). AllPrefixes z.1 z.0) (λ k. ((c.self.view_is k).learnt, entries_of (list_of (sym back k)))) (all_entries_begin x _ took.3),
+        subst (λ (z : List e × List e). IsPrefix z.0 z.1) (λ k. ((c.self.view_is k).seen, story_entries (list_of (sym back k)))) (entries_begin _ x took.2),
+        subst (λ (z : List (List e) × List e). AllPrefixes z.1 z.0) (λ k. ((c.self.view_is k).learnt, story_entries (list_of (sym back k)))) (all_entries_begin x _ took.3),
       ),
-      (λ k. map entries_of (learnt_of (back k))),
+      (λ k. map story_entries (learnt_of (back k))),
     )
 
 pub returns-clause-read : goal.returns-clause-read
@@ -68,6 +68,6 @@ returns-clause-read g c = let took = c.if-not-enter.ensures.entered in let i = c
     let seen : c.deref-2.result.now ≡ arc_value took.0 = search rules in (
       c.deref-2.result.now,
       (λ k. g.V.Growing.base (seen k)) ∙ sym one,
-      (λ k. g.V.Growing.listed (seen k)) ∙ (sym (entries_back (g.V.Growing.base (arc_value took.0)) xs) ∙ (λ k. entries_of (list_of (sym back k)))),
+      (λ k. g.V.Growing.listed (seen k)) ∙ (sym (entries_back (g.V.Growing.base (arc_value took.0)) xs) ∙ (λ k. story_entries (list_of (sym back k)))),
       search rules,
     )
