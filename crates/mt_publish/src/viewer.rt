@@ -27,7 +27,9 @@ pub struct Viewer<V: Growing<E>, E> {
     place: Place<V, E>,
     /// The number of its word and of its slot.
     index: usize,
+    /// The greatest number of entries that it has seen or learnt.
     most: u32,
+    /// How many views answered None.
     missed: u64,
 }
 
