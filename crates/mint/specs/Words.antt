@@ -14,11 +14,6 @@ use Rattle.mint.specs.declared.words.Command.{Command}
 abbrev pub bounds_word : Bounds → List ℕ
 bounds_word b = decimal b.m_max ++ 44 ∷ decimal b.s_max
 
--- a word in which no plus stands first, and a zero only where it is alone
-pub record IsPlain (word : List ℕ) : Type 0 where
-  pub unsigned : slice_index word 0 ≢ 43
-  pub zero : slice_index word 0 ≡ 48 → length word ≡ 1
-
 -- the depth is said for kind ooa alone
 abbrev pub depth_words : Kind → ℕ → List (List ℕ)
 depth_words Net depth = []

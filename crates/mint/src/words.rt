@@ -4,9 +4,9 @@ ghost use Rattle.mt_cells.specs.declared.bounds.Bounds.{Bounds};
 ghost use Rattle.mt_cells.specs.declared.asks.Ask.{Ask};
 ghost use Rattle.mint.specs.declared.words.Task.{Task};
 ghost use Rattle.mint.specs.declared.words.Command.{Command};
-ghost use Rattle.mint.specs.Words.{bounds_word, IsPlain, IsSizes, IsAskFor, AreTwo, AreThree, IsTask, IsCommand};
+ghost use Rattle.mint.specs.Words.{bounds_word, IsSizes, IsAskFor, AreTwo, AreThree, IsTask, IsCommand};
 
-use mt_cells::{Ask, Bounds, Kind, Question};
+use mt_cells::{Ask, Bounds, Kind, Question, plain_number};
 
 /// A command, and the bounds of the table.
 #[derive(Clone, Copy, PartialEq, Eq, Debug)]
@@ -63,7 +63,7 @@ fn read_bounds(word: &str) -> Option<Bounds>
         (λ b. word.now ≡ bounds_word b) }
 {
     let (m, s) = word.split_once(',')?;
-    Bounds::new(read_number(m)?, read_number(s)?)
+    Bounds::new(plain_number(m)?, plain_number(s)?)
 }
 
 // What the words behind the bounds ask for.
@@ -164,26 +164,5 @@ fn first_number(words: &[String]) -> Option<(u64, &[String])>
         (λ r. (r.0 < 2 ^ 64) × (map string_bytes words.now ≡ decimal r.0 ∷ map string_bytes r.1.now)) }
 {
     let (word, words) = first_word(words)?;
-    Some((read_number(word)?, words))
-}
-
-// The number with these digits.
-fn read_number(word: &str) -> Option<u64>
-    ensures { MatchOption result ((n : ℕ) → n < 2 ^ 64 → word.now ≢ decimal n)
-        (λ n. (n < 2 ^ 64) × (word.now ≡ decimal n)) }
-{
-    if !is_plain(word.as_bytes()) {
-        return None;
-    }
-    word.parse().ok()
-}
-
-// Whether no plus stands first, and a zero only where it is alone.
-fn is_plain(word: &[u8]) -> bool
-    ensures { IsTrue result ↔ IsPlain word.now }
-{
-    match word {
-        [] => true,
-        [first, rest @ ..] => *first != b'+' && (*first != b'0' || rest.is_empty()),
-    }
+    Some((plain_number(word)?, words))
 }

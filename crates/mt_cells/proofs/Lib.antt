@@ -4,3 +4,4 @@ pub mod CellSearch
 pub mod PlaceLemmas
 pub mod PickedLemmas
 pub mod ListedLemmas
+pub mod NumberLemmas

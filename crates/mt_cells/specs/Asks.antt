@@ -1,5 +1,5 @@
 -- Which cell a question asks for, and what of it is outside the bounds.
-use Rattle.std.specs.Prelude.{◌≡◌, ℕ, ◌≤◌, Option, None, Some, IfSome, MatchOption}
+use Rattle.std.specs.Prelude.{◌≡◌, ℕ, ◌≤◌, Option, None, Some, IfSome, MatchOption, unwrap_or}
 use Rattle.mt_linear.specs.declared.order.Order.{Order}
 use Rattle.mt_linear.specs.Field.{number_of}
 use Rattle.mt_cells.specs.declared.bounds.Bounds.{Bounds}
@@ -11,7 +11,7 @@ use Rattle.mt_cells.specs.declared.asks.Ask.{Ask}
 use Rattle.mt_cells.specs.declared.asks.Part.{Part}
 use Rattle.mt_cells.specs.declared.asks.Part.TheVariants as part
 use Rattle.mt_cells.specs.declared.asks.Question.{Question}
-use Rattle.mt_cells.specs.declared.asks.Question.TheVariants.{Value, Tree, Matrix, Table, Export}
+use Rattle.mt_cells.specs.declared.asks.Question.TheVariants.{Value, Tree, Matrix, Table, LeastM, Version, Export}
 use Rattle.mt_cells.specs.declared.sizes.Sizes.{Sizes}
 use Rattle.mt_cells.specs.Cells.{InBounds}
 
@@ -37,19 +37,23 @@ IsOrder q = (o : Order) × (number_of o ≡ q)
 
 -- ---- what is outside the bounds
 
+-- the greatest depth of a cell with the columns that are looked at
+abbrev pub most_rows : Bounds → Sizes → ℕ
+most_rows b a = unwrap_or a.m b.m_max
+
 -- the sizes are those of a cell within the bounds
 pub record AreInside (b : Bounds) (a : Sizes) : Type 0 where
   pub order : IsOrder a.q
-  pub m : IsFrom1 b.m_max a.m
+  pub m : IfSome a.m (IsFrom1 b.m_max)
   pub s : IfSome a.s (IsFrom1 b.s_max)
-  pub depth : IfSome a.depth (IsFrom1 a.m)
+  pub depth : IfSome a.depth (IsFrom1 (most_rows b a))
 
 -- the first of q, m, s and depth that no cell of the bounds has
 abbrev pub AreOutside : Bounds → Sizes → Part → ℕ → Type 0
 AreOutside b a part.Q number = (number ≡ a.q) × ¬ IsOrder a.q
-AreOutside b a part.M number = (number ≡ a.m) × IsOrder a.q × ¬ IsFrom1 b.m_max a.m
-AreOutside b a part.S number = (Some number ≡ a.s) × IsOrder a.q × IsFrom1 b.m_max a.m × ¬ IsFrom1 b.s_max number
-AreOutside b a part.Depth number = (Some number ≡ a.depth) × IsOrder a.q × IsFrom1 b.m_max a.m × IfSome a.s (IsFrom1 b.s_max) × ¬ IsFrom1 a.m number
+AreOutside b a part.M number = (Some number ≡ a.m) × IsOrder a.q × ¬ IsFrom1 b.m_max number
+AreOutside b a part.S number = (Some number ≡ a.s) × IsOrder a.q × IfSome a.m (IsFrom1 b.m_max) × ¬ IsFrom1 b.s_max number
+AreOutside b a part.Depth number = (Some number ≡ a.depth) × IsOrder a.q × IfSome a.m (IsFrom1 b.m_max) × IfSome a.s (IsFrom1 b.s_max) × ¬ IsFrom1 (most_rows b a) number
 
 -- depth is looked at for kind ooa alone
 abbrev pub asked_depth : Kind → ℕ → Option ℕ
@@ -59,14 +63,16 @@ asked_depth Ooa depth = Some depth
 asked_depth Seq depth = None
 
 abbrev pub ask_sizes : Ask → Sizes
-ask_sizes a = record { q = a.q; m = a.m; s = Some a.s; depth = asked_depth a.kind a.depth }
+ask_sizes a = record { q = a.q; m = Some a.m; s = Some a.s; depth = asked_depth a.kind a.depth }
 
 -- what a question looks at
 abbrev pub sizes_of : Question → Option Sizes
 sizes_of (Value a) = Some (ask_sizes a)
 sizes_of (Tree a) = Some (ask_sizes a)
 sizes_of (Matrix a) = Some (ask_sizes a)
-sizes_of (Table q m) = Some (record { q = q; m = m; s = None; depth = None })
+sizes_of (Table q m) = Some (record { q = q; m = Some m; s = None; depth = None })
+sizes_of (LeastM q s k) = Some (record { q = q; m = None; s = Some s; depth = None })
+sizes_of Version = None
 sizes_of Export = None
 
 -- all that is looked at is inside

@@ -6,4 +6,5 @@ pub mod Instances
 pub mod Places
 pub mod Propositions
 pub mod Listed
+pub mod Numbers
 pub mod Asks

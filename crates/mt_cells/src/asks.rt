@@ -130,6 +130,11 @@ pub enum Question {
     /// The values of the nets, the orthogonal arrays and the sequences over the field of q elements
     /// with m columns.
     Table { q: u64, m: u64 },
+    /// The least m for which the net over the field of q elements with s coordinates has value k or
+    /// more.
+    LeastM { q: u64, s: u64, k: u64 },
+    /// The number of events that the table stands for.
+    Version,
     /// The values of all cells.
     Export,
 }
@@ -151,11 +156,17 @@ impl Question {
             Question::Value(ask) | Question::Tree(ask) | Question::Matrix(ask) => Some(ask.sizes()),
             Question::Table { q, m } => Some(Sizes {
                 q: *q,
-                m: *m,
+                m: Some(*m),
                 s: None,
                 depth: None,
             }),
-            Question::Export => None,
+            Question::LeastM { q, s, .. } => Some(Sizes {
+                q: *q,
+                m: None,
+                s: Some(*s),
+                depth: None,
+            }),
+            Question::Version | Question::Export => None,
         }
     }
 }
@@ -196,7 +207,7 @@ impl Ask {
     {
         Sizes {
             q: self.q,
-            m: self.m,
+            m: Some(self.m),
             s: Some(self.s),
             depth: match self.kind {
                 Kind::Ooa => Some(self.depth),

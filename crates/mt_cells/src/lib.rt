@@ -9,6 +9,7 @@ mod instance_tests;
 mod instances;
 pub mod laws;
 mod lines;
+mod numbers;
 mod rules;
 mod sizes;
 #[cfg(test)]
@@ -20,5 +21,6 @@ pub use cells::Cell;
 pub use instances::{Instance, Instances, conclude, fan, instances_of_parent};
 pub use lines::{Line, Lines, Stage, lines_of_parent};
 pub use mt_linear::Steps;
+pub use numbers::plain_number;
 pub use rules::{Rule, RuleSet};
 pub use sizes::Sizes;

@@ -6,18 +6,19 @@ use crate::asks::{Outside, Part};
 use crate::bounds::Bounds;
 use mt_linear::Order;
 
-/// The sizes that a question looks at: always q and m, and s and depth where they are.
+/// The sizes that a question looks at: always q, and m, s and depth where they are.
 #[derive(Clone, Copy, PartialEq, Eq, Debug)]
 pub struct Sizes {
     pub q: u64,
-    pub m: u64,
+    pub m: Option<u64>,
     pub s: Option<u64>,
     pub depth: Option<u64>,
 }
 
 impl Sizes {
     /// The first of q, m, s and depth that no cell of the bounds has: q is no order of a field, m is
-    /// not from 1 to `m_max`, s not from 1 to `s_max`, or depth not from 1 to m.
+    /// not from 1 to `m_max`, s not from 1 to `s_max`, or depth not from 1 to m, or to `m_max` where
+    /// m is not looked at.
     pub fn outside(self, bounds: Bounds) -> Option<Outside>
         ensures { MatchOption result (AreInside bounds self)
             (λ outside. AreOutside bounds self outside.name outside.number) }
@@ -28,10 +29,12 @@ impl Sizes {
                 number: self.q,
             });
         };
-        if !is_from_1(bounds.m_max as u64, self.m) {
+        if let Some(m) = self.m
+            && !is_from_1(bounds.m_max as u64, m)
+        {
             return Some(Outside {
                 name: Part::M,
-                number: self.m,
+                number: m,
             });
         }
         if let Some(s) = self.s
@@ -43,7 +46,7 @@ impl Sizes {
             });
         }
         if let Some(depth) = self.depth
-            && !is_from_1(self.m, depth)
+            && !is_from_1(self.m.unwrap_or(bounds.m_max as u64), depth)
         {
             return Some(Outside {
                 name: Part::Depth,

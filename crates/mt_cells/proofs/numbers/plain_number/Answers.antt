@@ -1,9 +1,9 @@
 use Rattle.std.proofs.Common.{sym, subst}
 use Rattle.std.proofs.lemmas.Bool.{iff_false}
 use Rattle.std.proofs.lemmas.Str.Parse.{parse_plain}
-use Rattle.mint.specs.Words.{IsPlain}
-use Rattle.mint.proofs.WordLemmas.{own, IsPlain-decimal, number_read}
-use Rattle.mint.proofs.words.read_number.Goals as goal
+use Rattle.mt_cells.specs.Numbers.{IsPlain}
+use Rattle.mt_cells.proofs.NumberLemmas.{own, IsPlain-decimal, number_read}
+use Rattle.mt_cells.proofs.numbers.plain_number.Goals as goal
 
 pub returns-then-not-is_plain : goal.returns-then-not-is_plain
 returns-then-not-is_plain c = λ n l e.
