@@ -13,7 +13,7 @@ use Rattle.mt_cells.specs.declared.cells.Cell.TheVariants as cell
 use Rattle.mt_cells.specs.declared.asks.Kind.{Kind}
 use Rattle.mt_cells.specs.declared.asks.Kind.TheVariants.{Net, Oa, Ooa, Seq}
 use Rattle.mt_cells.specs.declared.asks.Question.{Question}
-use Rattle.mt_cells.specs.declared.asks.Question.TheVariants.{Value, Tree, Matrix, Table, Export}
+use Rattle.mt_cells.specs.declared.asks.Question.TheVariants.{Value, Tree, Matrix, Table, LeastM, Version, Export}
 use Rattle.mt_cells.specs.Asks.{IsFrom1, IsAsked}
 use Rattle.mt_derive.specs.Trees as trees
 use Rattle.mt_derive.specs.Trees.{Concludes, IsValue}
@@ -74,6 +74,9 @@ module _ (b : Bounds) (rules : RuleSet) (L : List Statement) where
   IsFact (Tree a) (fact.Tree nodes) = (c : Cell) × IsAsked b a c × IsDerivation c nodes.items
   IsFact (Matrix a) (fact.Matrix claim) = (c : Cell) × IsAsked b a c × IsClaimed a.kind c claim
   IsFact (Table q m) (fact.Sheet text) = (o : Order) × (number_of o ≡ q) × IsTableText b rules (entries_of L) o m text.items
+  IsFact (LeastM q s k) (fact.LeastM q' s' k' m) =
+      (q' ≡ q) × (s' ≡ s) × (k' ≡ k) × (o : Order) × (number_of o ≡ q) × IsLeastM o s k m
+  IsFact Version fact.Version = Unit {0}
   IsFact Export (fact.Sheet text) = IsExportText b rules (entries_of L) text.items
   IsFact question found = ⊥
 

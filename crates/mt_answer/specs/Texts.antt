@@ -65,7 +65,7 @@ nodes_text number (node ∷ nodes) = node_text number node ++ nodes_text (number
 
 -- ---- answers
 
--- no command asks for the last two
+-- the command line asks for neither of the last two
 abbrev pub fact_text : ℕ → Fact → List ℕ
 fact_text version (fact.Value a k since) = value_text a k since version
 fact_text version (fact.Tree nodes) = nodes_text 1 nodes.items

@@ -1,6 +1,6 @@
 //! Answers from a table.
 ghost use Rattle.std.specs.Prelude.{◌≡◌, IfOk};
-ghost use Rattle.mt_answer.specs.Answers.{IsTextFor};
+ghost use Rattle.mt_answer.specs.Answers.{HasText, IsTextFor};
 ghost use Rattle.mt_answer.specs.Facts.{IsFact, IsFound};
 ghost use Rattle.mt_answer.specs.Texts.{text_of};
 ghost use Rattle.mt_cells.specs.Asks.{sizes_of, IsInside};
@@ -9,6 +9,7 @@ use crate::claims::claim_of;
 use crate::derivations::derivation;
 use crate::exports::export_lines;
 use crate::facts::{Fact, Facts};
+use crate::least::least_m;
 use crate::lines::{node_lines, value_line};
 use crate::tables::table_lines;
 use mt_cells::Question;
@@ -26,6 +27,7 @@ use std::alloc::{AllocError, Global};
 /// - For matrices it is the claim, named `mint`, that the system of such a derivation has the value.
 /// - For a table it has comma-separated values: for each s the values of the net and the
 ///   orthogonal array, and m less the values of the net and the sequence.
+/// - For the least m it is this number, where one has the value.
 /// - For an export it has comma-separated values: for each cell its sizes, its value and the last
 ///   import that changed it, in the order of cells.
 pub fn find(alloc: Global, table: &Table, question: &Question) -> Result<Facts, AllocError>
@@ -65,11 +67,21 @@ fn fact_of(alloc: Global, table: &Table, question: &Question) -> Result<Fact, Al
             let order = Order::of_number(*q).unwrap();
             Ok(Fact::Sheet(table_lines(alloc, table, order, *m as u8)?))
         }
+        Question::LeastM { q, s, k } => {
+            let order = Order::of_number(*q).unwrap();
+            Ok(Fact::LeastM {
+                q: *q,
+                s: *s,
+                k: *k,
+                m: least_m(table, order, *s as u8, *k),
+            })
+        }
+        Question::Version => Ok(Fact::Version),
         Question::Export => Ok(Fact::Sheet(export_lines(alloc, table)?)),
     }
 }
 
-/// What [`find`] answers, as a text whose lines end with line feeds.
+/// What [`find`] answers to a question of the command line, as a text whose lines end with line feeds.
 ///
 /// - A value is `KIND Q M S: k K, t T, since N, version V`, with the depth behind S for kind ooa: the
 ///   value K, `T = m - K`, the last import that changed it, and the number of imports.
@@ -78,7 +90,8 @@ fn fact_of(alloc: Global, table: &Table, question: &Question) -> Result<Fact, Al
 /// - Matrices are the import text of their claim.
 /// - Comma-separated values are as they are.
 pub fn text(alloc: Global, table: &Table, question: &Question) -> Result<Vec<u8>, AllocError>
-    requires { IsInside table.now.bounds (sizes_of question.now) }
+    requires inside { IsInside table.now.bounds (sizes_of question.now) }
+    requires has_text { HasText question.now }
     ensures { IfOk result (λ text. IsTextFor table.now.bounds table.now.rules table.now.list
         question.now text.items) }
 {
