@@ -8,11 +8,11 @@ use Rattle.mt_cells.specs.declared.cells.Cell.{Cell}
 use Rattle.mt_cells.specs.declared.instances.Instance.{Instance}
 use Rattle.mt_cells.specs.Cells.{InBounds, number, cells_of}
 use Rattle.mt_cells.specs.Instances.{IsInstance, HasParent, conclusion_of}
-use Rattle.mt_cells.specs.Places.{second_or}
+use Rattle.mt_cells.specs.Instances.{second_or}
 use Rattle.mt_derive.specs.Closed.{second_of, IsDone}
 use Rattle.mt_derive.specs.Trees.{Entry}
 use Rattle.mt_cells.proofs.CellLemmas.{number_below, number_apart}
-use Rattle.mt_cells.proofs.PlaceLemmas.{inside}
+use Rattle.mt_cells.proofs.SpotLemmas.{inside}
 use Rattle.mt_derive.proofs.ConcludedLemmas.{conclude_push}
 use Rattle.mt_table.specs.declared.work.Work.{Work}
 use Rattle.mt_table.specs.Shapes.{sum_of}

@@ -7,7 +7,7 @@ use Rattle.mt_cells.specs.declared.instances.Instance.{Instance}
 use Rattle.mt_cells.specs.Cells.{InBounds, number, cells_of}
 use Rattle.mt_cells.specs.declared.lines.Line.{Line}
 use Rattle.mt_cells.specs.Instances.{IsInstance, HasParent}
-use Rattle.mt_cells.specs.Places.{IsPlace, IsRightLine, instance_at}
+use Rattle.mt_cells.specs.Spots.{IsSpot, IsRightLine, instance_at}
 use Rattle.mt_derive.specs.Closed.{second_of, IsDone}
 use Rattle.mt_derive.specs.Trees.{Entry}
 use Rattle.mt_derive.specs.declared.nodes.Made.{Made}
@@ -69,7 +69,7 @@ IsLineOf w c l = IsRightLine w.bounds w.rules c l.stage l.m l.depth l
 
 -- the instances of the line in v are settled in w
 abbrev pub LineSettled : Work → Cell → Line → Work → Type 0
-LineSettled v c l w = (s : ℕ) → IsPlace v.bounds v.rules c l.stage l.m l.depth s → IsSettled w (instance_at c l.stage l.m l.depth s)
+LineSettled v c l w = (s : ℕ) → IsSpot v.bounds v.rules c l.stage l.m l.depth s → IsSettled w (instance_at c l.stage l.m l.depth s)
 
 -- the instances with the parent in v are settled in w
 abbrev pub ParentSettled : Work → Cell → Work → Type 0

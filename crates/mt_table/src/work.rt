@@ -4,7 +4,7 @@ ghost use Rattle.mt_cells.specs.declared.bounds.TheConstants.{MOST_COLUMNS};
 ghost use Rattle.mt_cells.specs.Cells.{cells_of};
 ghost use Rattle.mt_table.specs.Shapes.{IsShaped, NoneBefore, ArePlaced, ArePlaced-prop, HasRoom, AreTops, sum_of};
 
-use mt_cells::{Bounds, Cell, Instance, Line, RuleSet, Stage, Steps, conclude, lines_of_parent};
+use mt_cells::{Bounds, Cell, Instance, Line, Rule, RuleSet, Stage, Steps, conclude, lines_of_parent};
 use mt_derive::{Axioms, Made, Node, Nodes};
 use std::alloc::{AllocError, Global};
 use std::sync::ledger::Ledger;
@@ -199,36 +199,26 @@ impl Work {
         ensures tried { LineSettled self.old cell line.now self.new }
     {
         match line.stage {
-            Stage::ProductFirst => {
-                let line = Line {
-                    stage: Stage::ProductFirst,
-                    ..*line
-                };
-                self.run_line(cell, &line, steps)
-            }
-            Stage::ProductSecond => {
-                let line = Line {
-                    stage: Stage::ProductSecond,
-                    ..*line
-                };
-                self.run_line(cell, &line, steps)
-            }
-            Stage::UuvFirst => {
-                let line = Line {
-                    stage: Stage::UuvFirst,
-                    ..*line
-                };
-                self.run_line(cell, &line, steps)
-            }
-            Stage::UuvSecond => {
-                let line = Line {
-                    stage: Stage::UuvSecond,
-                    ..*line
-                };
-                self.run_line(cell, &line, steps)
-            }
-            Stage::Single(_) | Stage::End => self.run_line(cell, line, steps),
+            Stage::First(Rule::Product) => self.run_stage(cell, line, Stage::First(Rule::Product), steps),
+            Stage::First(Rule::Uuv) => self.run_stage(cell, line, Stage::First(Rule::Uuv), steps),
+            Stage::Second(Rule::Product) => self.run_stage(cell, line, Stage::Second(Rule::Product), steps),
+            Stage::Second(Rule::Uuv) => self.run_stage(cell, line, Stage::Second(Rule::Uuv), steps),
+            _ => self.run_line(cell, line, steps),
         }
+    }
+
+    // The same of a line of this stage.
+    #[inline(always)]
+    fn run_stage<L: Ledger>(&mut self, cell: Cell, line: &Line, stage: Stage, steps: &mut Steps<L>)
+        requires inside { InBounds self.old.bounds cell }
+        requires right { IsLineOf self.old cell line.now }
+        requires some { line.now.first ≤ line.now.last }
+        requires stage { line.now.stage ≡ stage }
+        ensures grows { Grows self.old self.new }
+        ensures tried { LineSettled self.old cell line.now self.new }
+    {
+        let line = Line { stage, ..*line };
+        self.run_line(cell, &line, steps)
     }
 
     #[inline(always)]
