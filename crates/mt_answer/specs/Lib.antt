@@ -1,3 +1,7 @@
-pub mod Texts
 pub mod Sheets
+pub mod Facts
+pub mod Texts
 pub mod Answers
+pub mod Laws
+pub mod Places
+pub mod Fields

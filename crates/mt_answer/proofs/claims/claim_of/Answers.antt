@@ -1,16 +1,13 @@
-use Rattle.std.proofs.Common.{◌≡◌, [], codes, ap, ◌∙◌, subst}
-use Rattle.std.proofs.lemmas.Result.{IfOk-weaker}
+use Rattle.std.proofs.Common.{◌≡◌, [], codes, ap, sym, ◌∙◌, subst}
 use Rattle.mt_system.specs.Claims.{IsClaim}
 use Rattle.mt_system.specs.Statements.{statement_of}
-use Rattle.mt_import.specs.Canonical.{canonical_text}
 use Rattle.mt_derive.specs.Built.{IsBuilt}
 use Rattle.mt_derive.specs.declared.nodes.Node.{Node}
-use Rattle.mt_answer.specs.Texts.{form_of}
-use Rattle.mt_answer.specs.Answers.{IsMatrixText}
+use Rattle.mt_answer.specs.Facts.{form_of}
 use Rattle.mt_derive.proofs.ConcludedLemmas.{imports_shown}
 use Rattle.mt_derive.proofs.PlaceLemmas.{place_same}
-use Rattle.mt_answer.proofs.MatrixLemmas.{mint_is_name, claim_fits, built_served, matrix_answer}
-use Rattle.mt_answer.proofs.matrices.matrix_lines.Goals as goal
+use Rattle.mt_answer.proofs.ClaimLemmas.{mint_is_name, claim_fits, built_served, claimed}
+use Rattle.mt_answer.proofs.claims.claim_of.Goals as goal
 
 pub build-requires-clause-imports : goal.build-requires-clause-imports
 build-requires-clause-imports c =
@@ -37,9 +34,10 @@ returns c =
     let t = c.args.table.now in
     let a = c.args.ask.now in
     let s = c.node_of-n.ensures.served in
+    let claim = c.in-Some-new.claim in
     let built : IsBuilt t.nodes.list t.list c.node_of-n.result c.in_ok-system.system = rw (c.nodes-nodes.ensures.value, c.imports.ensures.list) at c.in_ok-system.ensures in
     let same : s.node ≡ c.get.result = place_same t.nodes.list c.node_of-n.result s.node c.get.result s.place (rw c.nodes-nodes.ensures.value at c.get.ensures.place) in
-    let told : statement_of c.in-Some-new.claim ≡ record { form = form_of a.kind; name = codes "mint"; note = []; k = s.node.k; system = c.in_ok-system.system } =
-    cc (c.in-Some-new.ensures.form, c.form_of.ensures, c.in-Some-new.ensures.name, c.in-Some.ensures.value, c.in-Some-new.ensures.note, c.in-Some-new.ensures.strength, same, c.in-Some-new.ensures.system) in
-    IfOk-weaker c.print_import.result _ (λ text. IsMatrixText t a c.args.cell text.items)
-    (λ text e. matrix_answer t a c.args.cell c.node_of-n.result c.in_ok-system.system text.items c.node_of-n.ensures.place s built (e ∙ ap canonical_text told)) c.print_import.ensures.text
+    let said : statement_of claim ≡ record { form = form_of a.kind; name = codes "mint"; note = []; k = claim.k; system = claim.system } =
+    cc (c.in-Some-new.ensures.form, c.form_of.ensures, c.in-Some-new.ensures.name, c.in-Some.ensures.value, c.in-Some-new.ensures.note) in
+    claimed t a.kind c.args.cell c.node_of-n.result c.in_ok-system.system claim s built
+    (c.in-Some-new.ensures.strength ∙ ap (λ (x : Node). x.k) (sym same)) c.in-Some-new.ensures.system said
