@@ -1,3 +1,5 @@
-pub mod Texts
 pub mod Sheets
+pub mod Facts
+pub mod Texts
 pub mod Answers
+pub mod Places

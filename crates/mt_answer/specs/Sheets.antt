@@ -1,45 +1,24 @@
 -- The values of many cells, as comma-separated values.
 use Rattle.std.specs.Prelude.{◌≡◌, ℕ, ◌+◌, ◌-◌, ◌<◌, List, [], ◌∷◌, ◌++◌, length, get_or, flat_map, codes, decimal}
-use Rattle.csv.specs.Writing.{row_text, default_writer}
+use Rattle.std.specs.List.{join_with_byte}
 use Rattle.mt_linear.specs.declared.order.Order.{Order}
 use Rattle.mt_linear.specs.Field.{number_of}
+use Rattle.mt_cells.specs.declared.bounds.Bounds.{Bounds}
+use Rattle.mt_cells.specs.declared.rules.RuleSet.{RuleSet}
 use Rattle.mt_cells.specs.declared.cells.Cell.{Cell}
 use Rattle.mt_cells.specs.declared.cells.Cell.TheVariants.{Ooa, Seq}
 use Rattle.mt_cells.specs.declared.asks.Kind.TheVariants as kind
 use Rattle.mt_cells.specs.Cells.{InBounds, number, cells_of}
 use Rattle.mt_cells.specs.Texts.{kind_text}
-use Rattle.mt_derive.specs.Trees.{IsValue}
+use Rattle.mt_derive.specs.Trees.{Entry, IsValue}
 use Rattle.mt_derive.specs.Values.{IsSince}
-use Rattle.mt_derive.specs.Imports.{entries_of}
-use Rattle.mt_table.specs.Tables.{Contents}
 
--- the text of these records, each a list of fields
-abbrev pub csv_text : List (List (List ℕ)) → List ℕ
-csv_text records = flat_map (row_text default_writer) records
-
--- ---- the table of an order and a number of columns
+-- the fields with commas between them, and a line feed
+abbrev pub line_text : List (List ℕ) → List ℕ
+line_text fields = join_with_byte 44 fields ++ 10 ∷ []
 
 abbrev pub table_header : List (List ℕ)
 table_header = codes "s" ∷ codes "net_k" ∷ codes "net_t" ∷ codes "oa_k" ∷ codes "seq_t" ∷ []
-
--- the fields for s coordinates: the greatest values of the net, the orthogonal array and the sequence, and their t = m - k
-pub record IsTableRecord (t : Contents) (o : Order) (m s : ℕ) (fields : List (List ℕ)) : Type 0 where
-  pub net_k : ℕ
-  pub net : IsValue t.bounds t.rules (entries_of t.list) (Ooa o m s m) net_k
-  pub oa_k : ℕ
-  pub oa : IsValue t.bounds t.rules (entries_of t.list) (Ooa o m s 1) oa_k
-  pub seq_k : ℕ
-  pub seq : IsValue t.bounds t.rules (entries_of t.list) (Seq o m s) seq_k
-  pub fields_are : fields ≡ decimal s ∷ decimal net_k ∷ decimal (m - net_k) ∷ decimal oa_k ∷ decimal (m - seq_k) ∷ []
-
--- a record for each s from 1 to the most coordinates
-pub record IsTableText (t : Contents) (o : Order) (m : ℕ) (text : List ℕ) : Type 0 where
-  pub records : List (List (List ℕ))
-  pub count : length records ≡ t.bounds.s_max
-  pub each : (n : ℕ) → n < t.bounds.s_max → IsTableRecord t o m (n + 1) (get_or records n [])
-  pub text_is : text ≡ csv_text (table_header ∷ records)
-
--- ---- all cells
 
 abbrev pub export_header : List (List ℕ)
 export_header = codes "kind" ∷ codes "q" ∷ codes "m" ∷ codes "s" ∷ codes "depth" ∷ codes "k" ∷ codes "since" ∷ []
@@ -49,17 +28,35 @@ abbrev pub cell_fields : Cell → List (List ℕ)
 cell_fields (Ooa o m s depth) = kind_text kind.Ooa ∷ decimal (number_of o) ∷ decimal m ∷ decimal s ∷ decimal depth ∷ []
 cell_fields (Seq o m s) = kind_text kind.Seq ∷ decimal (number_of o) ∷ decimal m ∷ decimal s ∷ decimal m ∷ []
 
--- the fields of a cell: its sizes, its greatest value and the last import that changed it
-pub record IsExportRecord (t : Contents) (c : Cell) (fields : List (List ℕ)) : Type 0 where
-  pub k : ℕ
-  pub value : IsValue t.bounds t.rules (entries_of t.list) c k
-  pub since : ℕ
-  pub is_since : IsSince t.bounds t.rules (entries_of t.list) c since
-  pub fields_are : fields ≡ cell_fields c ++ decimal k ∷ decimal since ∷ []
+module _ (b : Bounds) (rules : RuleSet) (L : List Entry) where
+  -- the fields for s coordinates: the greatest values of the net, the orthogonal array and the sequence, and their t = m - k
+  pub record IsTableRow (o : Order) (m s : ℕ) (fields : List (List ℕ)) : Type 0 where
+    pub net_k : ℕ
+    pub net : IsValue b rules L (Ooa o m s m) net_k
+    pub oa_k : ℕ
+    pub oa : IsValue b rules L (Ooa o m s 1) oa_k
+    pub seq_k : ℕ
+    pub seq : IsValue b rules L (Seq o m s) seq_k
+    pub fields_are : fields ≡ decimal s ∷ decimal net_k ∷ decimal (m - net_k) ∷ decimal oa_k ∷ decimal (m - seq_k) ∷ []
 
--- a record for each cell, in the order of cells
-pub record IsExportText (t : Contents) (text : List ℕ) : Type 0 where
-  pub records : List (List (List ℕ))
-  pub count : length records ≡ cells_of t.bounds
-  pub each : (c : Cell) → InBounds t.bounds c → IsExportRecord t c (get_or records (number t.bounds c) [])
-  pub text_is : text ≡ csv_text (export_header ∷ records)
+  -- a row for each s from 1 to the most coordinates
+  pub record IsTableText (o : Order) (m : ℕ) (text : List ℕ) : Type 0 where
+    pub rows : List (List (List ℕ))
+    pub count : length rows ≡ b.s_max
+    pub each : (n : ℕ) → n < b.s_max → IsTableRow o m (n + 1) (get_or rows n [])
+    pub text_is : text ≡ flat_map line_text (table_header ∷ rows)
+
+  -- the fields of a cell: its sizes, its greatest value and the last import that changed it
+  pub record IsExportRow (c : Cell) (fields : List (List ℕ)) : Type 0 where
+    pub k : ℕ
+    pub value : IsValue b rules L c k
+    pub since : ℕ
+    pub is_since : IsSince b rules L c since
+    pub fields_are : fields ≡ cell_fields c ++ decimal k ∷ decimal since ∷ []
+
+  -- a row for each cell, in the order of cells
+  pub record IsExportText (text : List ℕ) : Type 0 where
+    pub rows : List (List (List ℕ))
+    pub count : length rows ≡ cells_of b
+    pub each : (c : Cell) → InBounds b c → IsExportRow c (get_or rows (number b c) [])
+    pub text_is : text ≡ flat_map line_text (export_header ∷ rows)

@@ -1,13 +1,17 @@
-//! Answers to questions, as the command line shows them.
+//! Answers to questions: what holds over the imports of a table, and its text on the command line.
 #![tactic(auto)]
 
-mod answer;
+mod answers;
+mod claims;
+mod derivations;
 mod exports;
+mod facts;
+mod least;
 mod lines;
-mod matrices;
 mod sheets;
 mod tables;
-mod trees;
 
-pub use answer::text;
+pub use answers::{find, text};
+pub use facts::{Fact, Facts};
+pub use least::least_m;
 pub use lines::outside_line;

@@ -1,8 +1,9 @@
 //! The lines of answers.
 ghost use Rattle.std.specs.Prelude.{◌≡◌, ◌∷◌, ◌++◌, codes, decimal, IfOk, OnOk};
-ghost use Rattle.mt_answer.specs.Texts.{ask_text, value_text, outside_line_text};
+ghost use Rattle.mt_answer.specs.Texts.{ask_text, value_text, made_text, parents_text, node_text, nodes_text, outside_line_text};
 
 use mt_cells::{Ask, Kind, Outside};
+use mt_derive::{Made, Node};
 use std::alloc::{AllocError, Global};
 
 /// The line for a value.
@@ -46,8 +47,70 @@ fn ask_line(alloc: Global, ask: &Ask) -> Result<Vec<u8>, AllocError>
     Ok(text)
 }
 
+/// A line for each node, numbered from 1.
+pub(crate) fn node_lines(alloc: Global, nodes: &[Node]) -> Result<Vec<u8>, AllocError>
+    ensures { IfOk result (λ text. text.items ≡ nodes_text 1 nodes.now) }
+{
+    let mut text = Vec::new(alloc);
+    for (place, node) in nodes.iter().enumerate() {
+        push_node(alloc, &mut text, place as u64 + 1, *node)?;
+    }
+    Ok(text)
+}
+
+// Adds the line of a node.
+fn push_node(alloc: Global, text: &mut Vec<u8>, number: u64, node: Node) -> Result<(), AllocError>
+    ensures { OnOk result (text.new.items ≡ text.old.items ++ node_text number node) }
+{
+    push_labelled(alloc, text, b"", number)?;
+    text.push(b' ')?;
+    push_made(alloc, text, node.made)?;
+    text.push(b' ')?;
+    push_parents(alloc, text, node.made)?;
+    let (cell, k) = (node.cell, node.k);
+    let conclusion = format!(in alloc; " {cell} k {k}\n")?;
+    text.extend_from_slice(conclusion.as_bytes())
+}
+
+// Adds the name of an axiom, an import or a rule.
+fn push_made(alloc: Global, text: &mut Vec<u8>, made: Made) -> Result<(), AllocError>
+    ensures { OnOk result (text.new.items ≡ text.old.items ++ made_text made) }
+{
+    match made {
+        Made::Zero => text.extend_from_slice(b"zero"),
+        Made::Constant => text.extend_from_slice(b"constant"),
+        Made::Identity => text.extend_from_slice(b"identity"),
+        Made::Parity => text.extend_from_slice(b"parity"),
+        Made::Niederreiter => text.extend_from_slice(b"niederreiter"),
+        Made::Import(n) => push_labelled(alloc, text, b"import/", n as u64),
+        Made::One(rule, _) | Made::Two(rule, _, _) => {
+            let word = format!(in alloc; "{rule}")?;
+            text.extend_from_slice(word.as_bytes())
+        }
+    }
+}
+
+// Adds the numbers of the parents.
+fn push_parents(alloc: Global, text: &mut Vec<u8>, made: Made) -> Result<(), AllocError>
+    ensures { OnOk result (text.new.items ≡ text.old.items ++ parents_text made) }
+{
+    match made {
+        Made::One(_, parent) => push_labelled(alloc, text, b"", parent as u64 + 1),
+        Made::Two(_, first, second) => {
+            push_labelled(alloc, text, b"", first as u64 + 1)?;
+            push_labelled(alloc, text, b",", second as u64 + 1)
+        }
+        Made::Zero
+        | Made::Constant
+        | Made::Identity
+        | Made::Parity
+        | Made::Niederreiter
+        | Made::Import(_) => text.extend_from_slice(b"-"),
+    }
+}
+
 // Adds a label, and a number in decimal.
-pub(crate) fn push_labelled(
+fn push_labelled(
     alloc: Global,
     text: &mut Vec<u8>,
     label: &[u8],

@@ -1,8 +1,9 @@
 //! The values of one order and one number of columns, as comma-separated values.
 ghost use Rattle.std.specs.Prelude.{◌≡◌, ◌++◌, List, ℕ, IfOk, OnOk};
 ghost use Rattle.csv.specs.Writing.{default_writer, row_text};
-ghost use Rattle.mt_answer.specs.Sheets.{IsTableRecord, IsTableText};
 ghost use Rattle.mt_cells.specs.Asks.{IsFrom1};
+ghost use Rattle.mt_derive.specs.Imports.{entries_of};
+ghost use Rattle.mt_answer.specs.Sheets.{IsTableRow, IsTableText};
 
 use crate::sheets::Sheet;
 use mt_cells::Cell;
@@ -19,7 +20,8 @@ pub(crate) fn table_lines(
     m: u8,
 ) -> Result<Vec<u8>, AllocError>
     requires { IsFrom1 table.now.bounds.m_max m }
-    ensures { IfOk result (λ text. IsTableText table.now order m text.items) }
+    ensures { IfOk result (λ text. IsTableText table.now.bounds table.now.rules
+        (entries_of table.now.list) order m text.items) }
 {
     let mut sheet = Sheet::new(alloc);
     sheet.push(&[b"s", b"net_k", b"net_t", b"oa_k", b"seq_t"], &[])?;
@@ -39,7 +41,8 @@ fn push_values(
 ) -> Result<(), AllocError>
     requires m { IsFrom1 table.now.bounds.m_max m }
     requires s { IsFrom1 table.now.bounds.s_max s }
-    ensures { OnOk result ((fields : List (List ℕ)) × IsTableRecord table.now order m s fields
+    ensures { OnOk result ((fields : List (List ℕ)) × IsTableRow table.now.bounds table.now.rules
+        (entries_of table.now.list) order m s fields
         × (sheet.new ≡ sheet.old ++ row_text default_writer fields)) }
 {
     let net_k = table.value(Cell::Ooa {

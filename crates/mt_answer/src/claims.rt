@@ -1,25 +1,23 @@
-//! Generator matrices as import texts.
+//! Generator matrices, with what is claimed of them.
 ghost use Rattle.std.specs.Prelude.{◌≡◌, IfOk};
 ghost use Rattle.mt_cells.specs.Asks.{IsAsked};
-ghost use Rattle.mt_answer.specs.Answers.{IsMatrixText};
-ghost use Rattle.mt_answer.specs.Texts.{form_of as form_by};
+ghost use Rattle.mt_answer.specs.Facts.{IsClaimed, form_of as form_by};
 
 use mt_cells::{Ask, Cell, Kind};
 use mt_derive::build;
-use mt_import::print_import;
 use mt_system::{Claim, Form, Name};
 use mt_table::Table;
 use std::alloc::{AllocError, Global};
 
-/// The import text of the system that the derivation of the cell's value makes.
-pub(crate) fn matrix_lines(
+/// The claim that the system of the derivation of the cell's value has this value.
+pub(crate) fn claim_of(
     alloc: Global,
     table: &Table,
     ask: &Ask,
     cell: Cell,
-) -> Result<Vec<u8>, AllocError>
+) -> Result<Claim, AllocError>
     requires { IsAsked table.now.bounds ask.now cell }
-    ensures { IfOk result (λ text. IsMatrixText table.now ask.now cell text.items) }
+    ensures { IfOk result (IsClaimed table.now.bounds table.now.rules table.now.list ask.now.kind cell) }
 {
     let (nodes, n) = (table.nodes(), table.node_of(cell));
     let system = build(alloc, nodes, table.imports(), n)?;
@@ -27,7 +25,7 @@ pub(crate) fn matrix_lines(
         unreachable!();
     };
     match Claim::new(form_of(ask.kind), name, nodes.get(n).k, system) {
-        Some(claim) => print_import(alloc, &claim),
+        Some(claim) => Ok(claim),
         None => unreachable!(),
     }
 }
