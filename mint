@@ -26,20 +26,83 @@ HELP
     exit 0
 fi
 top=$(cd "$(dirname "$0")" && pwd) || exit 126
-program=$top/crates/mint/out/mint
+out=$top/crates/mint/out
+program=$out/mint
+lock=$out/building
+
+# Whether there is no program, or one that is older than the sources.
 changed() {
     [ ! -x "$program" ] || [ -n "$(find "$top/crates.txt" "$top"/crates/*/src -type f -newer "$program" | head -n 1)" ]
 }
-if changed; then
-    echo "mint: proving and building the program; this is done once, and may take 15 minutes" >&2
-    log=$top/crates/mint/out/build.log
-    mkdir -p "$top/crates/mint/out"
+
+# Takes the lock, unless another call has it and runs.
+take_lock() {
+    mkdir "$lock" 2>/dev/null && { echo $$ >"$lock/owner"; return; }
+    owner=$(cat "$lock/owner" 2>/dev/null)
+    if [ -n "$owner" ] && ! kill -0 "$owner" 2>/dev/null; then
+        rm -rf "$lock"
+    fi
+    return 1
+}
+
+# Ends what is being proved. What was proved so far is kept.
+stop() {
+    [ -z "$child" ] || kill "$child" 2>/dev/null
+    wait
+    rm -rf "$lock"
+    echo "mint: stopped; the next call goes on from here" >&2
+    exit 130
+}
+
+# Runs rt with these words in a crate's folder.
+prove() {
+    echo "mint: proving $1, crate $number of $crates, after $((($(date +%s) - start) / 60)) minutes" >&2
+    (cd "$top/crates/$1" && shift && exec rt "$@") </dev/null >>"$out/build.log" 2>&1 &
+    child=$!
+    wait "$child"
+    result=$?
+    child=
+    return $result
+}
+
+# Proves the crates in their order, and builds the program.
+build() {
+    start=$(date +%s)
+    number=0
+    names=$(sed -n 's/^\([a-z_]*\):.*/\1/p' "$top/crates.txt")
+    crates=$(echo "$names" | wc -l)
+    : >"$out/build.log"
     rm -f "$program"
-    (cd "$top/crates/mint" && rt run -- :memory: - 16,32 check) </dev/null >"$log" 2>&1
+    for name in $names; do
+        number=$((number + 1))
+        case $name in
+            mint) prove mint run -- :memory: - 16,32 check ;;
+            *) prove "$name" lib || break ;;
+        esac
+    done
     if [ ! -x "$program" ]; then
-        echo "mint: it could not be built; see $log" >&2
+        echo "mint: it could not be built; see $out/build.log" >&2
+        rm -rf "$lock"
         exit 126
     fi
     touch "$program"
+}
+
+if changed; then
+    mkdir -p "$out"
+    waiting=
+    until take_lock; do
+        [ -n "$waiting" ] || echo "mint: another call builds the program; waiting for it" >&2
+        waiting=yes
+        sleep 1
+    done
+    child=
+    trap stop INT TERM HUP
+    if changed; then
+        echo "mint: proving and building the program; this is done once, and may take 15 minutes" >&2
+        build
+    fi
+    trap - INT TERM HUP
+    rm -rf "$lock"
 fi
 exec "$program" "$@"

@@ -25,3 +25,8 @@ Appends None (Some after) result bytes = ⊥
 Appends (Some before) None result bytes = Unit {0}
 Appends (Some before) (Some after) result bytes =
     MatchResult result (λ _. after ≡ before ++ bytes) (λ _. AppendsPrefix before after bytes)
+
+-- the other side of a link: its bytes, where they are told, and its count of faults
+pub record Side : Type 0 where
+  pub bytes : Option (List ℕ)
+  pub faults : ℕ

@@ -7,6 +7,7 @@ mod choice_rows;
 mod counted_search;
 mod dependence;
 mod lanes;
+pub mod laws;
 mod packed_rows;
 mod pivots;
 mod searches;
