@@ -64,8 +64,8 @@ pub record IsSequenceText (o : Order) (m s : ℕ) (output : List ℕ) : Type 0 w
   pub output_is : output ≡ sequence_text (m - t) system
 
 -- the text for Niederreiter's matrices of these sizes
-abbrev pub IsNiederreiter : ℕ → ℕ → ℕ → List ℕ → Type 0
-IsNiederreiter q m s output = (o : Order) × (number_of o ≡ q) × IsSequenceText o m s output
+abbrev pub IsSequenceFor : ℕ → ℕ → ℕ → List ℕ → Type 0
+IsSequenceFor q m s output = (o : Order) × (number_of o ≡ q) × IsSequenceText o m s output
 
 abbrev pub sequence_sizes : ℕ → ℕ → ℕ → Sizes
 sequence_sizes q m s = record { q = q; m = Some m; s = Some s; depth = None }
@@ -73,7 +73,7 @@ sequence_sizes q m s = record { q = q; m = Some m; s = Some s; depth = None }
 abbrev pub Does : Bounds → Task → World → World → Status → List ℕ → Type 0
 Does b task.Check before after status output = (text : List ℕ) × IsInput MOST_READ before.input after.input text × IsCheck b text status output
 Does b (task.Ask question) before after status output = IsReply b (sizes_of question) (IsAnswered b question) status output
-Does b (task.Niederreiter q m s) before after status output = IsReply b (Some (sequence_sizes q m s)) (IsNiederreiter q m s) status output
+Does b (task.Niederreiter q m s) before after status output = IsReply b (Some (sequence_sizes q m s)) (IsSequenceFor q m s) status output
 
 abbrev pub ReadsInput : Task → Type 0
 ReadsInput task.Check = Unit {0}

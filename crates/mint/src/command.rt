@@ -9,7 +9,7 @@ ghost use Rattle.mt_answer.specs.Answers.{HasText};
 ghost use Rattle.mint.specs.Input.{IsInput, TakesAtMost};
 ghost use Rattle.mint.specs.Output.{Wrote, WrotePrefix};
 ghost use Rattle.mint.specs.Statuses.{Finished, CutOff, GivenUp, ending};
-ghost use Rattle.mint.specs.Run.{World, IsCheck, IsReply, IsAnswered, sequence_sizes, IsNiederreiter, Does, ReadsInput, IsFinished, IsCutOff, IsGivenUp, LeavesInput};
+ghost use Rattle.mint.specs.Run.{World, IsCheck, IsReply, IsAnswered, sequence_sizes, IsSequenceFor, Does, ReadsInput, IsFinished, IsCutOff, IsGivenUp, LeavesInput};
 
 use crate::input::{InputRefused, read_input};
 use crate::sequences::sequence_lines;
@@ -168,7 +168,7 @@ fn sequence_made(
     s: u64,
 ) -> Result<Answer, AllocError>
     ensures answer { IfOk result (λ a. IsReply bounds (Some (sequence_sizes q m s))
-        (IsNiederreiter q m s) a.status a.text.items) }
+        (IsSequenceFor q m s) a.status a.text.items) }
     ensures finished { IfOk result (λ a. ending a.status ≡ Finished) }
 {
     let sizes = Sizes {

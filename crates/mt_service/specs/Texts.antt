@@ -25,8 +25,8 @@ form_text TooLong = codes "refused: more than " ++ decimal MOST_BYTES ++ codes "
 form_text (Line line wanted) = codes "refused: line " ++ decimal line ++ wanted_text wanted
 
 -- decimal numbers with commas between them
-abbrev pub listed : List ℕ → List ℕ
-listed numbers = join_with_byte 44 (map decimal numbers)
+abbrev pub comma_list : List ℕ → List ℕ
+comma_list numbers = join_with_byte 44 (map decimal numbers)
 
 -- the part of a sequence that fails
 abbrev pub failing_part : Form → ℕ → List ℕ
@@ -42,4 +42,4 @@ outcome_text (outcome.Range name number limit) =
 outcome_text (outcome.TooManyChoices count) =
     codes "refused: " ++ decimal count ++ codes " choices, more than " ++ decimal MOST_CHOICES ++ 10 ∷ []
 outcome_text (outcome.Dependent form part choice coefficients) =
-    codes "refused: " ++ failing_part form part ++ codes "choice " ++ listed choice ++ codes " depends with " ++ listed coefficients.digits ++ 10 ∷ []
+    codes "refused: " ++ failing_part form part ++ codes "choice " ++ comma_list choice ++ codes " depends with " ++ comma_list coefficients.digits ++ 10 ∷ []

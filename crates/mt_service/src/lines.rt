@@ -2,7 +2,7 @@
 ghost use Rattle.std.specs.Prelude.{◌≡◌, [], ◌∷◌, ◌++◌, codes, decimal, flat_map, IfOk, OnOk};
 ghost use Rattle.mt_cells.specs.Texts.{part_text};
 ghost use Rattle.mt_service.specs.declared.gate.TheConstants.{MOST_CHOICES};
-ghost use Rattle.mt_service.specs.Texts.{form_text, failing_part, listed, outcome_text};
+ghost use Rattle.mt_service.specs.Texts.{form_text, failing_part, comma_list, outcome_text};
 
 use crate::gate::MOST_CHOICES;
 use crate::outcomes::Outcome;
@@ -77,8 +77,8 @@ fn depends(
     coefficients: &[u8],
 ) -> Result<Vec<u8>, AllocError>
     ensures { IfOk result (λ text. text.items
-        ≡ codes "refused: " ++ failing_part form part ++ codes "choice " ++ listed sizes.now
-        ++ codes " depends with " ++ listed coefficients.now ++ 10 ∷ []) }
+        ≡ codes "refused: " ++ failing_part form part ++ codes "choice " ++ comma_list sizes.now
+        ++ codes " depends with " ++ comma_list coefficients.now ++ 10 ∷ []) }
 {
     let mut text = Vec::from_slice(alloc, b"refused: ")?;
     push_part(alloc, &mut text, form, part)?;
@@ -107,7 +107,7 @@ fn push_part(alloc: Global, text: &mut Vec<u8>, form: Form, part: u8) -> Result<
 
 // Adds the numbers in decimal, with commas between them.
 fn push_list(alloc: Global, text: &mut Vec<u8>, numbers: &[u8]) -> Result<(), AllocError>
-    ensures { OnOk result (text.new.items ≡ text.old.items ++ listed numbers.now) }
+    ensures { OnOk result (text.new.items ≡ text.old.items ++ comma_list numbers.now) }
 {
     let Some((first, rest)) = numbers.split_first() else {
         return Ok(());

@@ -10,4 +10,4 @@ returns-clause-answer c =
     let question = c.args.question.now in
     let text = c.in_ok-text.field-0.items in
     let here = subst (λ (b : Bounds). IsTextFor b table.rules table.list question text) c.in_ok-table.ensures.bounds c.in_ok-text.ensures in
-    inr (c.in_default.ensures, refl, table.rules, c.in_ok-table.ensures.rules, subst (λ (L : List Statement). IsTextFor c.args.bounds table.rules L question text) c.in_ok-table.ensures.list here)
+    inr (c.in_default.ensures, refl, (table.rules, c.in_ok-table.ensures.rules, subst (λ (L : List Statement). IsTextFor c.args.bounds table.rules L question text) c.in_ok-table.ensures.list here))
