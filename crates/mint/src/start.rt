@@ -5,6 +5,7 @@ ghost use Rattle.mint.specs.Starts.{IsStart};
 use crate::words::first_word;
 
 /// What the program does with the words of the command line.
+#[derive(Clone, Copy)]
 pub enum Start<'a> {
     /// There are too few words: it writes the usage.
     Usage,
