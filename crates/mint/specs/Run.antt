@@ -36,7 +36,7 @@ pub record World : Type 0 where
   pub input : Option (List ℕ)
   pub output : Option (List ℕ)
 
--- ---- what a task does: its status and its text
+-- ---- what a task does: its status and its text, and what it takes of the world
 
 -- the claim of the text holds, or the text is refused
 abbrev pub IsCheck : Bounds → List ℕ → Status → List ℕ → Type 0
@@ -70,11 +70,13 @@ IsSequenceFor q m s output = (o : Order) × (number_of o ≡ q) × IsSequenceTex
 abbrev pub sequence_sizes : ℕ → ℕ → ℕ → Sizes
 sequence_sizes q m s = record { q = q; m = Some m; s = Some s; depth = None }
 
+-- what the task does, within these bounds
 abbrev pub Does : Bounds → Task → World → World → Status → List ℕ → Type 0
 Does b task.Check before after status output = (text : List ℕ) × IsInput MOST_READ before.input after.input text × IsCheck b text status output
 Does b (task.Ask question) before after status output = IsReply b (sizes_of question) (IsAnswered b question) status output
 Does b (task.Niederreiter q m s) before after status output = IsReply b (Some (sequence_sizes q m s)) (IsSequenceFor q m s) status output
 
+-- the task reads the input
 abbrev pub ReadsInput : Task → Type 0
 ReadsInput task.Check = Unit {0}
 ReadsInput (task.Ask question) = ⊥

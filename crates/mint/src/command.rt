@@ -86,6 +86,7 @@ struct Answer {
 // Does the task of a command.
 fn done<R: Source>(alloc: Global, command: Command, input: &mut R) -> Result<Answer, InputRefused>
     requires { (question : Question) → command.task ≡ Task.Ask question → HasText question }
+
     // Whatever the output tells.
     ensures answer { IfOk result (λ a. (x y : Option (List ℕ)) → Does command.bounds command.task
         (record { input = R.left input.old; output = x })
