@@ -1,3 +1,6 @@
 pub mod PlaceLemmas
-pub mod MatrixLemmas
+pub mod ClaimLemmas
+pub mod ValueLemmas
+pub mod LineLemmas
+pub mod FieldLemmas
 pub mod SheetLemmas

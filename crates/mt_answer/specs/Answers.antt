@@ -17,4 +17,4 @@ HasText question = Unit {0}
 
 -- the text of what answers the question over the imports
 abbrev pub IsTextFor : Bounds → RuleSet → List Statement → Question → List ℕ → Type 0
-IsTextFor b rules L question text = (facts : Facts) × IsFound b rules L question facts × (text ≡ text_of facts)
+IsTextFor b rules L question text = (facts : Facts) × IsFound b rules L question facts × (text ≡ text_of facts.fact facts.version)

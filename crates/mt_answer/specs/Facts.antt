@@ -5,18 +5,17 @@ use Rattle.mt_linear.specs.Field.{number_of}
 use Rattle.mt_system.specs.declared.claims.Claim.{Claim}
 use Rattle.mt_system.specs.declared.claims.Form.{Form}
 use Rattle.mt_system.specs.declared.claims.Form.TheVariants as form
-use Rattle.mt_system.specs.Statements.{Statement}
+use Rattle.mt_system.specs.Statements.{Statement, statement_of}
 use Rattle.mt_cells.specs.declared.bounds.Bounds.{Bounds}
 use Rattle.mt_cells.specs.declared.rules.RuleSet.{RuleSet}
 use Rattle.mt_cells.specs.declared.cells.Cell.{Cell}
 use Rattle.mt_cells.specs.declared.cells.Cell.TheVariants as cell
 use Rattle.mt_cells.specs.declared.asks.Kind.{Kind}
-use Rattle.mt_cells.specs.declared.asks.Kind.TheVariants.{Net, Oa, Ooa, Seq}
+use Rattle.mt_cells.specs.declared.asks.Kind.TheVariants.{Net, Seq}
 use Rattle.mt_cells.specs.declared.asks.Question.{Question}
 use Rattle.mt_cells.specs.declared.asks.Question.TheVariants.{Value, Tree, Matrix, Table, LeastM, Version, Export}
 use Rattle.mt_cells.specs.Asks.{IsFrom1, IsAsked}
-use Rattle.mt_derive.specs.Trees as trees
-use Rattle.mt_derive.specs.Trees.{Concludes, IsValue}
+use Rattle.mt_derive.specs.Trees.{IsValue}
 use Rattle.mt_derive.specs.Values.{IsSince}
 use Rattle.mt_derive.specs.declared.nodes.Node.{Node}
 use Rattle.mt_derive.specs.Concluded.{AllConclude}
@@ -32,9 +31,8 @@ use Rattle.mt_answer.specs.Sheets.{IsTableText, IsExportText}
 -- the form of a claim on what is asked for
 abbrev pub form_of : Kind → Form
 form_of Net = form.Net
-form_of Oa = form.Ooa
-form_of Ooa = form.Ooa
 form_of Seq = form.Seq
+form_of kind = form.Ooa
 
 module _ (b : Bounds) (rules : RuleSet) (L : List Statement) where
   -- the nodes of one derivation, parents first: each unfolds to a derivation of what it shows and is one of the last node's, which shows the cell with its greatest value
@@ -50,13 +48,9 @@ module _ (b : Bounds) (rules : RuleSet) (L : List Statement) where
   -- the claim, named `mint`, that the system of a derivation of the cell's greatest value has this value, as it does
   pub record IsClaimed (kind : Kind) (c : Cell) (claim : Claim) : Type 0 where
     pub value : IsValue b rules (entries_of L) c claim.k
-    pub tree : trees.Tree
-    pub concludes : Concludes b rules (entries_of L) tree c claim.k
-    pub made : IsSystemOf L tree claim.system
+    pub made : IsSystemOf L value.tree claim.system
     pub has : Has c claim.system claim.k
-    pub form : claim.form ≡ form_of kind
-    pub name : claim.name ≡ codes "mint"
-    pub note : claim.note ≡ []
+    pub said : statement_of claim ≡ record { form = form_of kind; name = codes "mint"; note = []; k = claim.k; system = claim.system }
 
   -- the net with m columns and s coordinates has the value k or more
   abbrev pub HasNet : Order → ℕ → ℕ → ℕ → Type 0

@@ -2,4 +2,6 @@ pub mod Sheets
 pub mod Facts
 pub mod Texts
 pub mod Answers
+pub mod Laws
 pub mod Places
+pub mod Fields

@@ -17,12 +17,6 @@ use Rattle.mt_derive.specs.Values.{IsSince}
 abbrev pub line_text : List (List ℕ) → List ℕ
 line_text fields = join_with_byte 44 fields ++ 10 ∷ []
 
-abbrev pub table_header : List (List ℕ)
-table_header = codes "s" ∷ codes "net_k" ∷ codes "net_t" ∷ codes "oa_k" ∷ codes "seq_t" ∷ []
-
-abbrev pub export_header : List (List ℕ)
-export_header = codes "kind" ∷ codes "q" ∷ codes "m" ∷ codes "s" ∷ codes "depth" ∷ codes "k" ∷ codes "since" ∷ []
-
 -- a sequence's depth is shown as its number of columns
 abbrev pub cell_fields : Cell → List (List ℕ)
 cell_fields (Ooa o m s depth) = kind_text kind.Ooa ∷ decimal (number_of o) ∷ decimal m ∷ decimal s ∷ decimal depth ∷ []
@@ -39,12 +33,12 @@ module _ (b : Bounds) (rules : RuleSet) (L : List Entry) where
     pub seq : IsValue b rules L (Seq o m s) seq_k
     pub fields_are : fields ≡ decimal s ∷ decimal net_k ∷ decimal (m - net_k) ∷ decimal oa_k ∷ decimal (m - seq_k) ∷ []
 
-  -- a row for each s from 1 to the most coordinates
+  -- a header, and a row for each s from 1 to the most coordinates
   pub record IsTableText (o : Order) (m : ℕ) (text : List ℕ) : Type 0 where
     pub rows : List (List (List ℕ))
     pub count : length rows ≡ b.s_max
     pub each : (n : ℕ) → n < b.s_max → IsTableRow o m (n + 1) (get_or rows n [])
-    pub text_is : text ≡ flat_map line_text (table_header ∷ rows)
+    pub text_is : text ≡ codes "s,net_k,net_t,oa_k,seq_t" ++ 10 ∷ flat_map line_text rows
 
   -- the fields of a cell: its sizes, its greatest value and the last import that changed it
   pub record IsExportRow (c : Cell) (fields : List (List ℕ)) : Type 0 where
@@ -54,9 +48,9 @@ module _ (b : Bounds) (rules : RuleSet) (L : List Entry) where
     pub is_since : IsSince b rules L c since
     pub fields_are : fields ≡ cell_fields c ++ decimal k ∷ decimal since ∷ []
 
-  -- a row for each cell, in the order of cells
+  -- a header, and a row for each cell, in the order of cells
   pub record IsExportText (text : List ℕ) : Type 0 where
     pub rows : List (List (List ℕ))
     pub count : length rows ≡ cells_of b
     pub each : (c : Cell) → InBounds b c → IsExportRow c (get_or rows (number b c) [])
-    pub text_is : text ≡ flat_map line_text (export_header ∷ rows)
+    pub text_is : text ≡ codes "kind,q,m,s,depth,k,since" ++ 10 ∷ flat_map line_text rows

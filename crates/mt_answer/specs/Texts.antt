@@ -6,11 +6,10 @@ use Rattle.mt_derive.specs.declared.nodes.Made.{Made}
 use Rattle.mt_derive.specs.declared.nodes.Made.TheVariants as made
 use Rattle.mt_derive.specs.declared.nodes.Node.{Node}
 use Rattle.mt_cells.specs.declared.asks.Kind.{Kind}
-use Rattle.mt_cells.specs.declared.asks.Kind.TheVariants.{Net, Oa, Ooa, Seq}
+use Rattle.mt_cells.specs.declared.asks.Kind.TheVariants.{Ooa}
 use Rattle.mt_cells.specs.declared.asks.Ask.{Ask}
 use Rattle.mt_cells.specs.declared.asks.Part.{Part}
 use Rattle.mt_cells.specs.Texts.{kind_text, outside_text, cell_text, rule_text}
-use Rattle.mt_answer.specs.declared.facts.Facts.{Facts}
 use Rattle.mt_answer.specs.declared.facts.Fact.{Fact}
 use Rattle.mt_answer.specs.declared.facts.Fact.TheVariants as fact
 
@@ -56,7 +55,7 @@ parents_text made = codes "-"
 -- `NUMBER RULE PARENTS CELL k VALUE`
 abbrev pub node_text : ℕ → Node → List ℕ
 node_text number node =
-    decimal number ++ 32 ∷ made_text node.made ++ 32 ∷ parents_text node.made ++ 32 ∷ cell_text node.cell ++ codes " k " ++ decimal node.k ++ 10 ∷ []
+    decimal number ++ (32 ∷ made_text node.made ++ 32 ∷ parents_text node.made) ++ (32 ∷ cell_text node.cell ++ codes " k " ++ decimal node.k ++ 10 ∷ [])
 
 -- a line for each node, numbered from this number on
 unfoldable pub nodes_text : ℕ → List Node → List ℕ
@@ -65,14 +64,11 @@ nodes_text number (node ∷ nodes) = node_text number node ++ nodes_text (number
 
 -- ---- answers
 
--- the command line asks for neither of the last two
-abbrev pub fact_text : ℕ → Fact → List ℕ
-fact_text version (fact.Value a k since) = value_text a k since version
-fact_text version (fact.Tree nodes) = nodes_text 1 nodes.items
-fact_text version (fact.Matrix claim) = canonical_text (statement_of claim)
-fact_text version (fact.Sheet text) = text.items
-fact_text version (fact.LeastM q s k m) = []
-fact_text version fact.Version = []
-
-abbrev pub text_of : Facts → List ℕ
-text_of facts = fact_text facts.version facts.fact
+-- the text of what holds over so many imports; the command line asks for neither of the last two
+abbrev pub text_of : Fact → ℕ → List ℕ
+text_of (fact.Value a k since) version = value_text a k since version
+text_of (fact.Tree nodes) version = nodes_text 1 nodes.items
+text_of (fact.Matrix claim) version = canonical_text (statement_of claim)
+text_of (fact.Sheet text) version = text.items
+text_of (fact.LeastM q s k m) version = []
+text_of fact.Version version = []

@@ -100,7 +100,7 @@ pub fn text(alloc: Global, table: &Table, question: &Question) -> Result<Vec<u8>
 }
 
 fn written(alloc: Global, facts: Facts) -> Result<Vec<u8>, AllocError>
-    ensures { IfOk result (λ text. text.items ≡ text_of facts) }
+    ensures { IfOk result (λ text. text.items ≡ text_of facts.fact facts.version) }
 {
     match facts.fact {
         Fact::Value { ask, k, since } => value_line(alloc, &ask, k, since, facts.version),

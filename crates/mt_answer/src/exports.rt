@@ -1,8 +1,7 @@
 //! The values of all cells, as comma-separated values.
 ghost use Rattle.std.specs.Prelude.{◌≡◌, [], ◌∷◌, ◌++◌, decimal, IfOk, OnOk};
-ghost use Rattle.csv.specs.Writing.{default_writer, row_text};
 ghost use Rattle.mt_derive.specs.Imports.{entries_of};
-ghost use Rattle.mt_answer.specs.Sheets.{cell_fields, IsExportText};
+ghost use Rattle.mt_answer.specs.Sheets.{line_text, cell_fields, IsExportText};
 
 use crate::sheets::Sheet;
 use mt_cells::{Cell, Kind};
@@ -27,7 +26,7 @@ pub(crate) fn export_lines(alloc: Global, table: &Table) -> Result<Vec<u8>, Allo
 // Adds the line of a cell.
 fn push_cell(sheet: &mut Sheet, cell: Cell, k: u8, since: u32) -> Result<(), AllocError>
     ensures { OnOk result (sheet.new ≡ sheet.old
-        ++ row_text default_writer (cell_fields cell ++ decimal k ∷ decimal since ∷ [])) }
+        ++ line_text (cell_fields cell ++ decimal k ∷ decimal since ∷ [])) }
 {
     let (kind, order, m, s, depth) = match cell {
         Cell::Ooa { order, m, s, depth } => (Kind::Ooa, order, m, s, depth),

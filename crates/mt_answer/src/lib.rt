@@ -6,6 +6,7 @@ mod claims;
 mod derivations;
 mod exports;
 mod facts;
+pub mod laws;
 mod least;
 mod lines;
 mod sheets;

@@ -1,5 +1,6 @@
 //! The lines of answers.
-ghost use Rattle.std.specs.Prelude.{◌≡◌, ◌∷◌, ◌++◌, codes, decimal, IfOk, OnOk};
+ghost use Rattle.std.specs.Prelude.{◌≡◌, [], ◌∷◌, ◌++◌, codes, decimal, IfOk, OnOk};
+ghost use Rattle.mt_cells.specs.Texts.{cell_text};
 ghost use Rattle.mt_answer.specs.Texts.{ask_text, value_text, made_text, parents_text, node_text, nodes_text, outside_line_text};
 
 use mt_cells::{Ask, Kind, Outside};
@@ -52,8 +53,8 @@ pub(crate) fn node_lines(alloc: Global, nodes: &[Node]) -> Result<Vec<u8>, Alloc
     ensures { IfOk result (λ text. text.items ≡ nodes_text 1 nodes.now) }
 {
     let mut text = Vec::new(alloc);
-    for (place, node) in nodes.iter().enumerate() {
-        push_node(alloc, &mut text, place as u64 + 1, *node)?;
+    for place in 0..nodes.len() {
+        push_node(alloc, &mut text, place as u64 + 1, nodes[place])?;
     }
     Ok(text)
 }
@@ -63,13 +64,29 @@ fn push_node(alloc: Global, text: &mut Vec<u8>, number: u64, node: Node) -> Resu
     ensures { OnOk result (text.new.items ≡ text.old.items ++ node_text number node) }
 {
     push_labelled(alloc, text, b"", number)?;
-    text.push(b' ')?;
-    push_made(alloc, text, node.made)?;
-    text.push(b' ')?;
-    push_parents(alloc, text, node.made)?;
+    push_rule(alloc, text, node.made)?;
+    push_conclusion(alloc, text, node)
+}
+
+// Adds the cell and the value, and ends the line.
+fn push_conclusion(alloc: Global, text: &mut Vec<u8>, node: Node) -> Result<(), AllocError>
+    ensures { OnOk result (text.new.items ≡ text.old.items
+        ++ (32 ∷ cell_text node.cell ++ codes " k " ++ decimal node.k ++ 10 ∷ [])) }
+{
     let (cell, k) = (node.cell, node.k);
     let conclusion = format!(in alloc; " {cell} k {k}\n")?;
     text.extend_from_slice(conclusion.as_bytes())
+}
+
+// Adds what the node is made of.
+fn push_rule(alloc: Global, text: &mut Vec<u8>, made: Made) -> Result<(), AllocError>
+    ensures { OnOk result (text.new.items ≡ text.old.items
+        ++ (32 ∷ made_text made ++ 32 ∷ parents_text made)) }
+{
+    text.push(b' ')?;
+    push_made(alloc, text, made)?;
+    text.push(b' ')?;
+    push_parents(alloc, text, made)
 }
 
 // Adds the name of an axiom, an import or a rule.

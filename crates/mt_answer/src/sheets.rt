@@ -1,7 +1,9 @@
 //! Comma-separated values in memory.
-ghost use Rattle.std.specs.Prelude.{◌≡◌, [], ◌++◌, decimal, map, IfOk, OnOk};
+ghost use Rattle.std.specs.Prelude.{◌≡◌, ◌+◌, ◌<◌, [], ◌++◌, length, decimal, map, IfOk, OnOk};
 ghost use Rattle.csv.specs.Records.{fields_of, partial_of};
 ghost use Rattle.csv.specs.Writing.{default_writer, row_text};
+ghost use Rattle.mt_answer.specs.Fields.{ArePlain};
+ghost use Rattle.mt_answer.specs.Sheets.{line_text};
 
 use csv::{ByteRecord, Writer};
 use itoa::Buffer;
@@ -12,7 +14,7 @@ use std::marker::Model;
 #[derive(Drop)]
 pub(crate) struct Sheet {
     writer: Writer<Vec<u8>>,
-    // The record that is written next, kept for its room.
+    // The row that is written next, kept for its room.
     row: ByteRecord,
     alloc: Global,
 }
@@ -41,8 +43,18 @@ impl Sheet {
         }
     }
 
-    /// Adds a record of these words and then these numbers, in decimal.
+    /// Adds a row of these words and then these numbers, in decimal.
     pub(crate) fn push(&mut self, words: &[&[u8]], numbers: &[u64]) -> Result<(), AllocError>
+        requires plain { ArePlain (map (λ f. f.now) words.now) }
+        requires some { 0 < length (map (λ f. f.now) words.now) + length numbers.now }
+        ensures { OnOk result (self.new ≡ self.old
+            ++ line_text (map (λ f. f.now) words.now ++ map decimal numbers.now)) }
+    {
+        self.push_row(words, numbers)
+    }
+
+    // Adds it as `csv` writes it.
+    fn push_row(&mut self, words: &[&[u8]], numbers: &[u64]) -> Result<(), AllocError>
         ensures { OnOk result (self.new ≡ self.old
             ++ row_text default_writer (map (λ f. f.now) words.now ++ map decimal numbers.now)) }
     {

@@ -1,9 +1,8 @@
 //! The values of one order and one number of columns, as comma-separated values.
 ghost use Rattle.std.specs.Prelude.{◌≡◌, ◌++◌, List, ℕ, IfOk, OnOk};
-ghost use Rattle.csv.specs.Writing.{default_writer, row_text};
 ghost use Rattle.mt_cells.specs.Asks.{IsFrom1};
 ghost use Rattle.mt_derive.specs.Imports.{entries_of};
-ghost use Rattle.mt_answer.specs.Sheets.{IsTableRow, IsTableText};
+ghost use Rattle.mt_answer.specs.Sheets.{line_text, IsTableRow, IsTableText};
 
 use crate::sheets::Sheet;
 use mt_cells::Cell;
@@ -43,7 +42,7 @@ fn push_values(
     requires s { IsFrom1 table.now.bounds.s_max s }
     ensures { OnOk result ((fields : List (List ℕ)) × IsTableRow table.now.bounds table.now.rules
         (entries_of table.now.list) order m s fields
-        × (sheet.new ≡ sheet.old ++ row_text default_writer fields)) }
+        × (sheet.new ≡ sheet.old ++ line_text fields)) }
 {
     let net_k = table.value(Cell::Ooa {
         order,

@@ -1,5 +1,4 @@
-use Rattle.mt_answer.specs.Sheets.{export_header}
-use Rattle.mt_answer.proofs.SheetLemmas.{IsSheet, IsCellRow}
+use Rattle.mt_answer.proofs.SheetLemmas.{IsSheet, export_header, IsCellRow}
 use Rattle.mt_answer.proofs.exports.export_lines.Given as goal
 
 abbrev pub invariant-loop-number : goal.invariant-loop-number

@@ -1,9 +1,11 @@
--- The claim of a served system.
-use Rattle.std.proofs.Common.{◌≡◌, ℕ, ◌≤◌, List, [], codes, refl, sym, ◌∙◌, subst, arith}
+-- The claim of a system that a table's node makes.
+use Rattle.std.proofs.Common.{◌≡◌, ℕ, ◌≤◌, [], codes, refl, sym, ◌∙◌, subst, arith}
 use Rattle.std.proofs.lemmas.List.Elements.{All-nil, All-cons}
 use Rattle.std.specs.Prelude.{Contains}
 use Rattle.mt_linear.specs.declared.order.Order.{Order}
+use Rattle.mt_system.specs.declared.claims.Claim.{Claim}
 use Rattle.mt_system.specs.Rows.{Matrices}
+use Rattle.mt_system.specs.Statements.{statement_of}
 use Rattle.mt_system.specs.Claims.{name_characters, IsName, IsClaim}
 use Rattle.mt_cells.specs.declared.bounds.Bounds.{Bounds}
 use Rattle.mt_cells.specs.declared.cells.Cell.{Cell}
@@ -12,15 +14,15 @@ use Rattle.mt_cells.specs.declared.asks.Kind.TheVariants.{Net, Oa, Ooa, Seq}
 use Rattle.mt_cells.specs.declared.asks.Ask.{Ask}
 use Rattle.mt_cells.specs.Asks.{cell_by, IsAsked}
 use Rattle.mt_cells.specs.Cells.{InBounds, columns_of}
-use Rattle.mt_derive.specs.Trees.{Tree}
+use Rattle.mt_derive.specs.Trees.{Tree, Concludes}
 use Rattle.mt_derive.specs.declared.nodes.Node.{Node}
 use Rattle.mt_derive.specs.Built.{IsBuilt}
+use Rattle.mt_derive.specs.Imports.{entries_of}
 use Rattle.mt_derive.specs.Systems.{IsSystemOf, Has}
 use Rattle.mt_derive.proofs.ConcludedLemmas.{tree_same}
 use Rattle.mt_derive.proofs.PlaceLemmas.{place_same}
-use Rattle.mt_table.specs.Tables.{Contents, place_of, IsServed}
-use Rattle.mt_answer.specs.Answers.{IsMatrixText}
-use Rattle.mt_answer.specs.Texts.{form_of, matrix_text}
+use Rattle.mt_table.specs.Tables.{Contents, IsServed}
+use Rattle.mt_answer.specs.Facts.{form_of, IsClaimed}
 
 abbrev P : ℕ → Type 0
 P b = Contains name_characters b
@@ -74,16 +76,18 @@ built_served t c n a s built = (
       (subst (λ (x : Node). Has x.cell a x.k) (place_same t.nodes.list n built.node s.node built.place s.place) built.has),
 )
 
--- the text of what is built of the node that the table names
-pub matrix_answer : (t : Contents) (a : Ask) (c : Cell) (n : ℕ) (system : Matrices) (text : List ℕ) → n ≡ place_of t c → (s : IsServed t c n) → IsBuilt t.nodes.list t.list n system
-    → text ≡ matrix_text a.kind s.node.k system → IsMatrixText t a c text
-matrix_answer t a c n system text e s built h =
-    subst (λ n. (s : IsServed t c n) → IsBuilt t.nodes.list t.list n system → text ≡ matrix_text a.kind s.node.k system → IsMatrixText t a c text) (sym e)
-    (λ s built h. record {
-      served = s;
-      system = system;
-      made = (built_served t c (place_of t c) system s built).0;
-      has = (built_served t c (place_of t c) system s built).1;
-      text_is = h;
-    })
-    s built h
+-- a claim of what is built of that node
+pub claimed : (t : Contents) (kind : Kind) (c : Cell) (n : ℕ) (system : Matrices) (claim : Claim) → (s : IsServed t c n) → IsBuilt t.nodes.list t.list n system
+    → claim.k ≡ s.node.k → claim.system ≡ system
+    → statement_of claim ≡ record { form = form_of kind; name = codes "mint"; note = []; k = claim.k; system = claim.system } → IsClaimed t.bounds t.rules t.list kind c claim
+claimed t kind c n system claim s built k is said = record {
+  value = record {
+    tree = s.concluded.tree;
+    reached = subst (λ z. Concludes t.bounds t.rules (entries_of t.list) s.concluded.tree c z) (sym k)
+        (subst (λ (x : Cell). Concludes t.bounds t.rules (entries_of t.list) s.concluded.tree x s.node.k) s.cell s.concluded.concludes);
+    greatest = λ u j h. rw k (s.value.greatest u j h);
+  };
+  made = subst (λ (a : Matrices). IsSystemOf t.list s.concluded.tree a) (sym is) (built_served t c n system s built).0;
+  has = subst (λ z. Has c claim.system z) (sym k) (subst (λ (a : Matrices). Has c a s.node.k) (sym is) (built_served t c n system s built).1);
+  said = said;
+}
