@@ -1,6 +1,3 @@
-mod CheckLemmas
-mod EndLemmas
 mod InputLemmas
-mod TextLemmas
 mod WordLemmas
 pub mod SequenceLemmas

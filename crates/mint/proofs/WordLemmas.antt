@@ -1,5 +1,5 @@
 -- Numbers and questions among words.
-use Rattle.std.proofs.Common.{Bor, ◌≡◌, ◌≢◌, ℕ, ◌+◌, ◌^◌, ◌<◌, ◌≤◌, List, ◌++◌, ◌∷◌, length, get_or, decimal, ap, ap₂, sym, ◌∙◌, subst, arith, inl, inr}
+use Rattle.std.proofs.Common.{Bor, ◌≡◌, ◌≢◌, ℕ, ◌+◌, ◌^◌, ◌<◌, ◌≤◌, List, ◌++◌, ◌∷◌, length, get_or, codes, decimal, ap, ap₂, sym, ◌∙◌, subst, arith, inl, inr}
 use Rattle.std.specs.Prelude.{Option, None, Some, Result, Ok, Err, MatchOption, IsSome, IfSome, ◌↔◌}
 use Rattle.std.specs.Result.{OkIff, result_ok}
 use Rattle.std.specs.Str.Parse.{AllDigits, digits_value}
@@ -9,7 +9,13 @@ use Rattle.std.proofs.lemmas.Str.Parse.{IsNumeralModel, numerals_by_value, tells
 use Rattle.std.proofs.lemmas.Str.Pattern.{IsSplitOnceResult, split_after}
 use Rattle.mt_cells.specs.declared.bounds.Bounds.{Bounds}
 use Rattle.mt_cells.specs.declared.bounds.TheConstants.{MOST_COLUMNS, MOST_COORDINATES}
-use Rattle.mint.specs.Words.{bounds_word}
+use Rattle.mt_cells.specs.declared.asks.Ask.{Ask}
+use Rattle.mt_cells.specs.declared.asks.Question.{Question}
+use Rattle.mt_cells.specs.declared.asks.Question.TheVariants.{Value, Tree, Matrix, Table, LeastM, Version, Export}
+use Rattle.mt_answer.specs.Answers.{HasText}
+use Rattle.mint.specs.declared.words.Task.{Task}
+use Rattle.mint.specs.declared.words.Task.TheVariants as task
+use Rattle.mint.specs.Words.{bounds_word, IsAskFor, IsTask}
 
 pub own : IsNumeralModel (AllDigits 10) (digits_value 10)
 own = numerals_by_value (AllDigits 10) tells_digits
@@ -41,3 +47,29 @@ bounds_read word prefix back m s whole prefix_is back_is small low cut None take
     absurd (false≢true (taken.1 (same_bounds b m s small low (sym prefix_is ∙ parts.0) (sym back_is ∙ parts.1))))
 bounds_read word prefix back m s whole prefix_is back_is small low cut (Some b) taken m_is s_is =
     whole ∙ ap₂ (λ (x y : List ℕ). x ++ 44 ∷ y) (prefix_is ∙ ap decimal (sym m_is)) (back_is ∙ ap decimal (sym s_is))
+
+-- words whose others are no kind and sizes, and whose first is none of these four, ask for no task
+pub asks_for_none : (words : List (List ℕ)) (word : List ℕ) (rest : List (List ℕ)) → words ≡ word ∷ rest → ((a : Ask) → ¬ IsAskFor rest a)
+    → word ≢ codes "check" → word ≢ codes "table" → word ≢ codes "export" → word ≢ codes "niederreiter" → (t : Task) → ¬ IsTask words t
+asks_for_none words word rest e none check table export niederreiter task.Check is = check (cc)
+asks_for_none words word rest e none check table export niederreiter (task.Ask (Value a)) is =
+    let first = is.1 in let same : rest ≡ is.0 = cc in none a (subst (λ (r : List (List ℕ)). IsAskFor r a) (sym same) is.2)
+asks_for_none words word rest e none check table export niederreiter (task.Ask (Tree a)) is =
+    let first = is.1 in let same : rest ≡ is.0 = cc in none a (subst (λ (r : List (List ℕ)). IsAskFor r a) (sym same) is.2)
+asks_for_none words word rest e none check table export niederreiter (task.Ask (Matrix a)) is =
+    let first = is.1 in let same : rest ≡ is.0 = cc in none a (subst (λ (r : List (List ℕ)). IsAskFor r a) (sym same) is.2)
+asks_for_none words word rest e none check table export niederreiter (task.Ask (Table q m)) is = let first = is.1 in table (cc)
+asks_for_none words word rest e none check table export niederreiter (task.Ask Export) is = export (cc)
+asks_for_none words word rest e none check table export niederreiter (task.Ask (LeastM q s k)) is = is
+asks_for_none words word rest e none check table export niederreiter (task.Ask Version) is = is
+asks_for_none words word rest e none check table export niederreiter (task.Niederreiter q m s) is = let first = is.1 in niederreiter (cc)
+
+-- a question that words ask for has a text
+pub asked_has_text : (words : List (List ℕ)) (question : Question) → IsTask words (task.Ask question) → HasText question
+asked_has_text words (Value a) is = tt
+asked_has_text words (Tree a) is = tt
+asked_has_text words (Matrix a) is = tt
+asked_has_text words (Table q m) is = tt
+asked_has_text words Export is = tt
+asked_has_text words (LeastM q s k) is = absurd is
+asked_has_text words Version is = absurd is

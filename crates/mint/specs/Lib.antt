@@ -1,7 +1,7 @@
 pub mod Input
-pub mod Outcomes
 pub mod Output
 pub mod Run
+pub mod Starts
 pub mod Statuses
 pub mod Texts
 pub mod Words

@@ -1,4 +1,4 @@
--- The numbers of statuses.
+-- The numbers of statuses, and how a status ends a command.
 use Rattle.std.specs.Prelude.{ℕ}
 use Rattle.mint.specs.declared.status.Status.{Status}
 use Rattle.mint.specs.declared.status.Status.TheVariants.{Ok, Memory, Words, Refused, ReadFault, WriteFault, Outside}
@@ -11,3 +11,16 @@ number_of_status Refused = 3
 number_of_status ReadFault = 4
 number_of_status WriteFault = 5
 number_of_status Outside = 8
+
+-- a command has written its whole text, or a part of it, or it was given up and has written nothing
+pub data Ending : Type 0 where
+  Finished CutOff GivenUp : Ending
+
+abbrev pub ending : Status → Ending
+ending Ok = Finished
+ending Memory = GivenUp
+ending Words = Finished
+ending Refused = Finished
+ending ReadFault = GivenUp
+ending WriteFault = CutOff
+ending Outside = Finished

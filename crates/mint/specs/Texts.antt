@@ -1,54 +1,15 @@
 -- The texts that the program writes. Each ends with a line feed.
-use Rattle.std.specs.Prelude.{ℕ, List, [], ◌∷◌, ◌++◌, map, codes, decimal}
-use Rattle.std.specs.List.{join_with_byte}
-use Rattle.mt_system.specs.declared.claims.Form.{Form}
-use Rattle.mt_system.specs.declared.claims.Form.TheVariants.{Ooa, Net, Seq}
+use Rattle.std.specs.Prelude.{ℕ, List, [], ◌∷◌, ◌++◌, codes}
+use Rattle.mt_system.specs.declared.claims.Form.TheVariants.{Seq}
 use Rattle.mt_system.specs.Rows.{Matrices}
 use Rattle.mt_import.specs.Canonical.{canonical_text}
-use Rattle.mt_import.specs.declared.import_text.TheConstants.{MOST_BYTES}
-use Rattle.mt_import.specs.declared.refusals.FormRefused.{FormRefused}
-use Rattle.mt_import.specs.declared.refusals.FormRefused.TheVariants.{TooLong, Line}
-use Rattle.mt_import.specs.declared.refusals.Wanted.{Wanted}
-use Rattle.mt_import.specs.declared.refusals.Wanted.TheVariants.{Header, Source, Row, Blank}
-use Rattle.mt_cells.specs.Texts.{part_text}
-use Rattle.mint.specs.declared.checks.TheConstants.{MOST_CHOICES}
-use Rattle.mint.specs.declared.checks.Outcome.{Outcome}
-use Rattle.mint.specs.declared.checks.Outcome.TheVariants as outcome
 
 abbrev pub usage_text : List ℕ
 usage_text = codes "usage: mint STORE FEED M,S COMMAND\n"
 
--- what a refused line is not
-abbrev pub wanted_text : Wanted → List ℕ
-wanted_text Header = codes " is no header\n"
-wanted_text Source = codes " is no source\n"
-wanted_text Row = codes " is no row\n"
-wanted_text Blank = codes " is not blank\n"
-
-abbrev pub form_text : FormRefused → List ℕ
-form_text TooLong = codes "refused: more than " ++ decimal MOST_BYTES ++ codes " bytes\n"
-form_text (Line line wanted) = codes "refused: line " ++ decimal line ++ wanted_text wanted
-
--- decimal numbers with commas between them
-abbrev pub listed : List ℕ → List ℕ
-listed numbers = join_with_byte 44 (map decimal numbers)
-
--- the part of a sequence that fails
-abbrev pub failing_part : Form → ℕ → List ℕ
-failing_part Ooa part = []
-failing_part Net part = []
-failing_part Seq part = codes "part " ++ decimal part ++ codes " "
-
--- the line for what a check found
-abbrev pub outcome_text : Outcome → List ℕ
-outcome_text (outcome.Holds c) = codes "holds " ++ c.name ++ 10 ∷ []
-outcome_text (outcome.Form refused) = form_text refused
-outcome_text (outcome.Range name number limit) =
-    codes "refused: " ++ part_text name ++ 32 ∷ decimal number ++ codes " is over " ++ decimal limit ++ 10 ∷ []
-outcome_text (outcome.TooManyChoices count) =
-    codes "refused: " ++ decimal count ++ codes " choices, more than " ++ decimal MOST_CHOICES ++ 10 ∷ []
-outcome_text (outcome.Dependent form part choice coefficients) =
-    codes "refused: " ++ failing_part form part ++ codes "choice " ++ listed choice ++ codes " depends with " ++ listed coefficients.digits ++ 10 ∷ []
+-- the line for a claim of this name that holds
+abbrev pub holds_text : List ℕ → List ℕ
+holds_text name = codes "holds " ++ name ++ 10 ∷ []
 
 -- the import text of the system under the name `niederreiter`, with the sequence strength u
 abbrev pub sequence_text : ℕ → Matrices → List ℕ

@@ -1,5 +1,5 @@
 -- The words of commands.
-use Rattle.std.specs.Prelude.{◌≡◌, ◌≢◌, ℕ, ◌^◌, ◌<◌, slice_index, length, List, [], ◌∷◌, ◌++◌, codes, decimal}
+use Rattle.std.specs.Prelude.{◌≡◌, ℕ, ◌^◌, ◌<◌, List, [], ◌∷◌, ◌++◌, codes, decimal}
 use Rattle.mt_cells.specs.declared.bounds.Bounds.{Bounds}
 use Rattle.mt_cells.specs.declared.asks.Kind.{Kind}
 use Rattle.mt_cells.specs.declared.asks.Kind.TheVariants.{Net, Oa, Ooa, Seq}
@@ -44,29 +44,20 @@ AreTwo words q m = (q < 2 ^ 64) × (m < 2 ^ 64) × (words ≡ decimal q ∷ deci
 abbrev pub AreThree : List (List ℕ) → ℕ → ℕ → ℕ → Type 0
 AreThree words q m s = (q < 2 ^ 64) × (m < 2 ^ 64) × (s < 2 ^ 64) × (words ≡ decimal q ∷ decimal m ∷ decimal s ∷ [])
 
--- the first word behind the bounds
-abbrev pub task_word : Task → List ℕ
-task_word task.Check = codes "check"
-task_word (task.Ask (Value a)) = codes "value"
-task_word (task.Ask (Tree a)) = codes "tree"
-task_word (task.Ask (Matrix a)) = codes "matrix"
-task_word (task.Ask (Table q m)) = codes "table"
-task_word (task.Ask Export) = codes "export"
-task_word (task.Niederreiter q m s) = codes "niederreiter"
+-- the first word is this one, and P holds of those behind it
+abbrev pub IsBehind : List ℕ → (List (List ℕ) → Type 0) → List (List ℕ) → Type 0
+IsBehind word P words = (rest : List (List ℕ)) × (words ≡ word ∷ rest) × P rest
 
--- the words behind that
-abbrev pub AreFor : Task → List (List ℕ) → Type 0
-AreFor task.Check words = words ≡ []
-AreFor (task.Ask (Value a)) words = IsAskFor words a
-AreFor (task.Ask (Tree a)) words = IsAskFor words a
-AreFor (task.Ask (Matrix a)) words = IsAskFor words a
-AreFor (task.Ask (Table q m)) words = AreTwo words q m
-AreFor (task.Ask Export) words = words ≡ []
-AreFor (task.Niederreiter q m s) words = AreThree words q m s
-
--- the words behind the bounds
+-- the words behind the bounds ask for this task
 abbrev pub IsTask : List (List ℕ) → Task → Type 0
-IsTask words t = (rest : List (List ℕ)) × (words ≡ task_word t ∷ rest) × AreFor t rest
+IsTask words task.Check = words ≡ codes "check" ∷ []
+IsTask words (task.Ask (Value a)) = IsBehind (codes "value") (λ rest. IsAskFor rest a) words
+IsTask words (task.Ask (Tree a)) = IsBehind (codes "tree") (λ rest. IsAskFor rest a) words
+IsTask words (task.Ask (Matrix a)) = IsBehind (codes "matrix") (λ rest. IsAskFor rest a) words
+IsTask words (task.Ask (Table q m)) = IsBehind (codes "table") (λ rest. AreTwo rest q m) words
+IsTask words (task.Ask Export) = words ≡ codes "export" ∷ []
+IsTask words (task.Ask question) = ⊥
+IsTask words (task.Niederreiter q m s) = IsBehind (codes "niederreiter") (λ rest. AreThree rest q m s) words
 
 -- the words of a command: its bounds, and then its task
 pub record IsCommand (words : List (List ℕ)) (c : Command) : Type 0 where

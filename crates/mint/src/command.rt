@@ -1,24 +1,27 @@
 //! The top call.
-ghost use Rattle.std.specs.Prelude.{◌≡◌, ◌≢◌, ◌⊎◌, ◌<◌, true, [], map, string_bytes, IfOk, IsErrOf};
+ghost use Rattle.std.specs.Prelude.{◌≡◌, ◌≢◌, ◌<◌, ℕ, List, Option, true, [], map, string_bytes, IfOk, IsErrOf};
 ghost use Rattle.mt_io.specs.Faults.{Rose};
 ghost use Rattle.mt_cells.specs.declared.rules.Rule.{Rule};
+ghost use Rattle.mt_cells.specs.declared.asks.Question.{Question};
 ghost use Rattle.mt_cells.specs.Asks.{sizes_of};
 ghost use Rattle.mt_cells.specs.Instances.{has_rule};
+ghost use Rattle.mt_answer.specs.Answers.{HasText};
 ghost use Rattle.mint.specs.Input.{IsInput, TakesAtMost};
 ghost use Rattle.mint.specs.Output.{Wrote, WrotePrefix};
-ghost use Rattle.mint.specs.Run.{outcome_status, IsCheck, IsChecked, IsAnswer, IsAnswered, sequence_sizes, IsNiederreiter, Does, AsksForNoCheck, IsEnd};
+ghost use Rattle.mint.specs.Statuses.{Finished, CutOff, GivenUp, ending};
+ghost use Rattle.mint.specs.Run.{World, IsCheck, IsReply, IsAnswered, sequence_sizes, IsSequenceFor, Does, ReadsInput, IsFinished, IsCutOff, IsGivenUp, LeavesInput};
 
-use crate::checks::{Outcome, check_text};
 use crate::input::{InputRefused, read_input};
 use crate::sequences::sequence_lines;
 use crate::status::Status;
-use crate::texts::{USAGE, outcome_line};
+use crate::texts::{USAGE, holds_line};
 use crate::words::{Command, Task, read_words};
 use mt_answer::{outside_line, text};
 use mt_cells::{Bounds, Question, RuleSet, Sizes, Steps};
 use mt_import::MOST_BYTES;
 use mt_io::{Failed, Sink, Source};
 use mt_linear::Order;
+use mt_service::check_text;
 use mt_table::Table;
 use std::alloc::{AllocError, Global};
 use std::marker::Brand;
@@ -43,13 +46,18 @@ pub fn run_command<R: Source, W: Sink>(
     input: &mut R,
     output: &mut W,
 ) -> Status
-    ensures end { IsEnd (map string_bytes words.now) (R.left input.old) (R.left input.new)
-        (W.written output.old) (W.written output.new) result }
+    // The text of the run was written whole, or a prefix of it, or nothing.
+    ensures done { ending result ≡ Finished → IsFinished (map string_bytes words.now)
+        (record { input = R.left input.old; output = W.written output.old })
+        (record { input = R.left input.new; output = W.written output.new }) result }
+    ensures cut { ending result ≡ CutOff → IsCutOff (map string_bytes words.now)
+        (record { input = R.left input.old; output = W.written output.old })
+        (record { input = R.left input.new; output = W.written output.new }) }
+    ensures given_up { ending result ≡ GivenUp → IsGivenUp (map string_bytes words.now) result }
+    ensures unwritten { ending result ≡ GivenUp → output.new ≡ output.old }
 
-    // Want of memory and a failed read leave the output alone, other words leave the input alone.
-    ensures unwritten { (result ≡ Status.Memory) ⊎ (result ≡ Status.ReadFault)
-        → output.new ≡ output.old }
-    ensures unread { AsksForNoCheck (map string_bytes words.now) → input.new ≡ input.old }
+    // Only a command that reads the input touches it.
+    ensures unread { LeavesInput (map string_bytes words.now) → input.new ≡ input.old }
     ensures most { TakesAtMost MOST_READ (R.left input.old) (R.left input.new) }
 
     // It doesn't give up by itself.
@@ -77,12 +85,18 @@ struct Answer {
 
 // Does the task of a command.
 fn done<R: Source>(alloc: Global, command: Command, input: &mut R) -> Result<Answer, InputRefused>
-    ensures answer { IfOk result (λ a. Does command.bounds command.task (R.left input.old)
-        (R.left input.new) a.status a.text.items) }
+    requires { (question : Question) → command.task ≡ Task.Ask question → HasText question }
+
+    // Whatever the output tells.
+    ensures answer { IfOk result (λ a. (x y : Option (List ℕ)) → Does command.bounds command.task
+        (record { input = R.left input.old; output = x })
+        (record { input = R.left input.new; output = y }) a.status a.text.items) }
+    ensures finished { IfOk result (λ a. ending a.status ≡ Finished) }
     ensures most { TakesAtMost MOST_READ (R.left input.old) (R.left input.new) }
-    ensures unread { command.task ≢ Task.Check → input.new ≡ input.old }
-    ensures fault { IsErrOf result InputRefused.Fault → (command.task ≡ Task.Check)
-        × Rose (R.faults input.old) (R.faults input.new) }
+    ensures unread { ¬ ReadsInput command.task → input.new ≡ input.old }
+    ensures reads { IsErrOf result InputRefused.Fault → ReadsInput command.task }
+    ensures fault { IsErrOf result InputRefused.Fault
+        → Rose (R.faults input.old) (R.faults input.new) }
 {
     match command.task {
         Task::Check => checked_input(alloc, command.bounds, input),
@@ -97,8 +111,10 @@ fn checked_input<R: Source>(
     bounds: Bounds,
     input: &mut R,
 ) -> Result<Answer, InputRefused>
-    ensures answer { IfOk result (λ a. IsChecked bounds (R.left input.old) (R.left input.new)
-        a.status a.text.items) }
+    ensures answer { IfOk result (λ a. (text : List ℕ)
+        × IsInput MOST_READ (R.left input.old) (R.left input.new) text
+        × IsCheck bounds text a.status a.text.items) }
+    ensures finished { IfOk result (λ a. ending a.status ≡ Finished) }
     ensures most { TakesAtMost MOST_READ (R.left input.old) (R.left input.new) }
     ensures fault { IsErrOf result InputRefused.Fault
         → Rose (R.faults input.old) (R.faults input.new) }
@@ -109,20 +125,27 @@ fn checked_input<R: Source>(
 
 // The answer for a text.
 fn checked_text(alloc: Global, bounds: Bounds, text: &[u8]) -> Result<Answer, AllocError>
-    ensures { IfOk result (λ a. IsCheck bounds text.now a.status a.text.items) }
+    ensures answer { IfOk result (λ a. IsCheck bounds text.now a.status a.text.items) }
+    ensures finished { IfOk result (λ a. ending a.status ≡ Finished) }
 {
-    let found = check_text(alloc, bounds, text)?;
-    let text = outcome_line(alloc, &found)?;
-    Ok(Answer {
-        status: status_of(&found),
-        text,
-    })
+    match check_text(alloc, bounds, text)? {
+        Ok(checked) => Ok(Answer {
+            status: Status::Ok,
+            text: holds_line(alloc, checked.claim().name.bytes())?,
+        }),
+        Err(outcome) => Ok(Answer {
+            status: Status::Refused,
+            text: outcome.line(alloc)?,
+        }),
+    }
 }
 
 // The answer to a question, from a table made for it, or the line for what is outside the bounds.
 fn answered(alloc: Global, bounds: Bounds, question: &Question) -> Result<Answer, AllocError>
-    ensures { IfOk result (λ a. IsAnswer bounds (sizes_of question.now)
+    requires { HasText question.now }
+    ensures answer { IfOk result (λ a. IsReply bounds (sizes_of question.now)
         (IsAnswered bounds question.now) a.status a.text.items) }
+    ensures finished { IfOk result (λ a. ending a.status ≡ Finished) }
 {
     if let Some(outside) = question.outside(bounds) {
         return Ok(Answer {
@@ -145,12 +168,13 @@ fn sequence_made(
     m: u64,
     s: u64,
 ) -> Result<Answer, AllocError>
-    ensures { IfOk result (λ a. IsAnswer bounds (Some (sequence_sizes q m s))
-        (IsNiederreiter q m s) a.status a.text.items) }
+    ensures answer { IfOk result (λ a. IsReply bounds (Some (sequence_sizes q m s))
+        (IsSequenceFor q m s) a.status a.text.items) }
+    ensures finished { IfOk result (λ a. ending a.status ≡ Finished) }
 {
     let sizes = Sizes {
         q,
-        m,
+        m: Some(m),
         s: Some(s),
         depth: None,
     };
@@ -184,25 +208,14 @@ pub(crate) fn table_of<L: Ledger>(
     Table::new(alloc, bounds, RuleSet::all(), &mut steps)
 }
 
-fn status_of(found: &Outcome) -> Status
-    ensures { result ≡ outcome_status found.now }
-{
-    match found {
-        Outcome::Holds(_) => Status::Ok,
-        Outcome::Form(_)
-        | Outcome::Range { .. }
-        | Outcome::TooManyChoices { .. }
-        | Outcome::Dependent { .. } => Status::Refused,
-    }
-}
-
 /// Writes the text, and answers the status, or that the output failed.
 pub fn write_answer<W: Sink>(output: &mut W, status: Status, text: &[u8]) -> Status
-    requires { status ≢ Status.WriteFault }
-    ensures done { result ≢ Status.WriteFault
+    requires { ending status ≡ Finished }
+    ensures done { ending result ≡ Finished
         → (result ≡ status) × Wrote (W.written output.old) (W.written output.new) text.now }
-    ensures cut { result ≡ Status.WriteFault
+    ensures cut { ending result ≡ CutOff
         → WrotePrefix (W.written output.old) (W.written output.new) text.now }
+    ensures going { ending result ≢ GivenUp }
     ensures fault { result ≡ Status.WriteFault → Rose (W.faults output.old) (W.faults output.new) }
 {
     match output.write_all(text) {

@@ -1,7 +1,6 @@
 //! mint: a parameter server for digital nets.
 #![tactic(auto)]
 
-mod checks;
 mod command;
 mod input;
 #[cfg(test)]
@@ -9,6 +8,7 @@ mod sequence_tests;
 mod sequences;
 #[cfg(test)]
 mod served_tests;
+mod start;
 mod status;
 #[cfg(test)]
 mod table_tests;
@@ -19,6 +19,7 @@ mod words;
 
 use command::{run_command, write_answer};
 use mt_io::{StdSink, StdSource};
+use start::{Start, start_of};
 use status::Status;
 use std::env;
 use std::io::ErrorKind;
@@ -40,12 +41,13 @@ fn main(rt: HostRuntime) -> ExitCode {
     let Ok(words) = words.collect::<Vec<String>>(rt.alloc()) else {
         return ExitCode::from(Status::Memory.number());
     };
-    let [_, store, feed, command @ ..] = words.as_slice() else {
-        return ExitCode::from(write_answer(&mut output, Status::Words, USAGE).number());
+    let status = match start_of(&words) {
+        Start::Usage => write_answer(&mut output, Status::Words, USAGE),
+        Start::Unopened => return ExitCode::from(UNOPENED),
+        Start::Command(words) => {
+            let mut input = StdSource::new(rt.stdin());
+            run_command(rt.alloc(), words, &mut input, &mut output)
+        }
     };
-    if store.as_str() != ":memory:" || feed.as_str() != "-" {
-        return ExitCode::from(UNOPENED);
-    }
-    let mut input = StdSource::new(rt.stdin());
-    ExitCode::from(run_command(rt.alloc(), command, &mut input, &mut output).number())
+    ExitCode::from(status.number())
 }

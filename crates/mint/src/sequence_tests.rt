@@ -1,6 +1,6 @@
 //! Niederreiter's matrices, as they are shown and under the rules for sequences.
 use crate::status::Status;
-use crate::tests::{USAGE, assert_answers, run};
+use crate::tests::{assert_answers, run};
 use mt_linear::Order;
 use mt_niederreiter::matrices;
 use mt_rules_basic::{seq_cut, seq_fewer, seq_to_net};
@@ -62,32 +62,6 @@ fn matrices_of_sequences_hold(rt: HostRuntime) -> Result<(), Fail> {
         let checked = run(rt.alloc(), &["6,4", "check"], &made.1, 4096)?;
         assert_eq!(rt; checked.0, Status::Ok);
         assert_eq!(rt; checked.1.as_slice(), b"holds niederreiter\n".as_slice());
-    }
-    Ok(())
-}
-
-#[test]
-fn sequences_outside_name_their_part(rt: HostRuntime) -> Result<(), Fail> {
-    let cases: [(&[&str], &[u8]); 4] = [
-        (&["4,8", "niederreiter", "2", "5", "3"], b"outside: m 5\n"),
-        (&["4,8", "niederreiter", "6", "5", "9"], b"outside: q 6\n"),
-        (&["4,8", "niederreiter", "2", "4", "9"], b"outside: s 9\n"),
-        (&["4,8", "niederreiter", "2", "4", "0"], b"outside: s 0\n"),
-    ];
-    assert_answers(&rt, rt.alloc(), Status::Outside, &cases)
-}
-
-#[test]
-fn other_sequences_get_the_usage(rt: HostRuntime) -> Result<(), Fail> {
-    for texts in [
-        ["4,8", "niederreiter"].as_slice(),
-        &["4,8", "niederreiter", "2", "3"],
-        &["4,8", "niederreiter", "2", "3", "x"],
-        &["4,8", "niederreiter", "2", "3", "3", "3"],
-    ] {
-        let answer = run(rt.alloc(), texts, b"", 7)?;
-        assert_eq!(rt; answer.0, Status::Words);
-        assert_eq!(rt; answer.1.as_slice(), USAGE);
     }
     Ok(())
 }

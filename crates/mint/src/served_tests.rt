@@ -1,10 +1,10 @@
 //! Derivations and generator matrices that are served.
-use crate::checks::{Outcome, check_text};
 use crate::command::table_of;
 use crate::status::Status;
-use crate::tests::{USAGE, assert_answers, run};
+use crate::tests::assert_answers;
 use mt_answer::text;
 use mt_cells::{Ask, Bounds, Cell, Kind, Question};
+use mt_service::check_text;
 use std::marker::Brand;
 use std::sync::ledger::Blank;
 use std::test::Fail;
@@ -59,23 +59,6 @@ fn matrices_as_they_are_shown(rt: HostRuntime) -> Result<(), Fail> {
     assert_answers(&rt, rt.alloc(), Status::Ok, &cases)
 }
 
-#[test]
-fn other_questions_get_the_usage(rt: HostRuntime) -> Result<(), Fail> {
-    for texts in [
-        ["4,8", "tree"].as_slice(),
-        &["4,8", "tree", "net", "2", "3"],
-        &["4,8", "trees", "net", "2", "3", "1"],
-        &["4,8", "matrix", "ooa", "2", "3", "1"],
-        &["4,8", "matrix", "net", "2", "3", "1", "1"],
-        &["4,8", "matrix", "net", "2", "3", "x"],
-    ] {
-        let answer = run(rt.alloc(), texts, b"", 7)?;
-        assert_eq!(rt; answer.0, Status::Words);
-        assert_eq!(rt; answer.1.as_slice(), USAGE);
-    }
-    Ok(())
-}
-
 // A question for the cell.
 fn ask_for(cell: Cell) -> Ask {
     match cell {
@@ -107,7 +90,7 @@ fn all_matrices_hold(rt: HostRuntime) -> Result<(), Fail> {
         let question = Question::Matrix(ask_for(cell));
         assert_eq!(rt; question.outside(bounds), None);
         let served = text(alloc, &table, &question)?;
-        let Outcome::Holds(checked) = check_text(alloc, bounds, &served)? else {
+        let Ok(checked) = check_text(alloc, bounds, &served)? else {
             return Err("a served matrix does not hold")?;
         };
         assert_eq!(rt; checked.claim().k, table.value(cell));

@@ -1,6 +1,6 @@
 //! Tables and exports.
 use crate::status::Status;
-use crate::tests::{USAGE, assert_answers, run};
+use crate::tests::{assert_answers, run};
 use std::test::Fail;
 
 #[test]
@@ -54,36 +54,5 @@ fn an_export_has_all_cells(rt: HostRuntime) -> Result<(), Fail> {
     let lines = answer.1.iter().filter(|byte| **byte == b'\n').count();
     assert_eq!(rt; lines, 106);
     assert!(rt; answer.1.ends_with(b"seq,9,2,3,2,2,0\n"));
-    Ok(())
-}
-
-#[test]
-fn tables_outside_name_their_part(rt: HostRuntime) -> Result<(), Fail> {
-    let cases: [(&[&str], &[u8]); 4] = [
-        (&["4,8", "table", "6", "3"], b"outside: q 6\n"),
-        (&["4,8", "table", "6", "5"], b"outside: q 6\n"),
-        (&["4,8", "table", "2", "5"], b"outside: m 5\n"),
-        (&["4,8", "table", "2", "0"], b"outside: m 0\n"),
-    ];
-    assert_answers(&rt, rt.alloc(), Status::Outside, &cases)
-}
-
-#[test]
-fn other_tables_get_the_usage(rt: HostRuntime) -> Result<(), Fail> {
-    for texts in [
-        ["4,8", "table"].as_slice(),
-        &["4,8", "table", "2"],
-        &["4,8", "table", "2", "03"],
-        &["4,8", "table", "net", "2", "3"],
-        &["4,8", "table", "2", "3", "1"],
-        &["4,8", "tables", "2", "3"],
-        &["21,8", "export"],
-        &["4,8", "export", "2"],
-        &["4,8", "exports"],
-    ] {
-        let answer = run(rt.alloc(), texts, b"", 7)?;
-        assert_eq!(rt; answer.0, Status::Words);
-        assert_eq!(rt; answer.1.as_slice(), USAGE);
-    }
     Ok(())
 }

@@ -1,5 +1,6 @@
 //! Runs of the top call over memory, with texts from outside.
 use crate::command::run_command;
+use crate::start::{Start, start_of};
 use crate::status::Status;
 use mt_io::{MemorySink, MemorySource, SteadySink, SteadySource};
 use std::alloc::{AllocError, Global};
@@ -12,7 +13,15 @@ const TWIN: &[u8] = b"ooa 2 2 2 2 2 twin\n10\n01\n10\n01\n";
 
 const SAME: &[u8] = b"ooa 3 2 2 1 2 same\n12\n12\n";
 
-pub(crate) const USAGE: &[u8] = b"usage: mint STORE FEED M,S COMMAND\n";
+const USAGE: &[u8] = b"usage: mint STORE FEED M,S COMMAND\n";
+
+const HOLDS: &[u8] = b"holds one\n";
+
+const TOO_LONG: &[u8] = b"refused: more than 65536 bytes\n";
+
+const NO_HEADER: &[u8] = b"refused: line 1 is no header\n";
+
+const NO_ROW: &[u8] = b"refused: line 2 is no row\n";
 
 fn words(alloc: Global, texts: &[&str]) -> Result<Vec<String>, AllocError> {
     let mut words = Vec::new(alloc);
@@ -218,28 +227,20 @@ fn arrays_and_sequences_get_their_values(rt: HostRuntime) -> Result<(), Fail> {
 
 #[test]
 fn questions_outside_name_their_part(rt: HostRuntime) -> Result<(), Fail> {
-    let cases: [(&[&str], &[u8]); 9] = [
+    let cases: [(&[&str], &[u8]); 7] = [
         (&["4,8", "value", "net", "2", "5", "3"], b"outside: m 5\n"),
         (&["4,8", "value", "net", "6", "2", "2"], b"outside: q 6\n"),
-        (&["4,8", "value", "oa", "2", "0", "9"], b"outside: m 0\n"),
-        (&["4,8", "value", "seq", "2", "4", "9"], b"outside: s 9\n"),
-        (
-            &["4,8", "value", "ooa", "2", "3", "2", "4"],
-            b"outside: depth 4\n",
-        ),
-        (
-            &["4,8", "value", "ooa", "2", "3", "2", "0"],
-            b"outside: depth 0\n",
-        ),
         (
             &["4,8", "value", "net", "18446744073709551615", "3", "1"],
             b"outside: q 18446744073709551615\n",
         ),
-        (&["4,8", "tree", "net", "2", "5", "3"], b"outside: m 5\n"),
+        (&["4,8", "tree", "seq", "2", "4", "9"], b"outside: s 9\n"),
         (
             &["4,8", "matrix", "ooa", "2", "3", "2", "4"],
             b"outside: depth 4\n",
         ),
+        (&["4,8", "table", "2", "0"], b"outside: m 0\n"),
+        (&["4,8", "niederreiter", "6", "5", "9"], b"outside: q 6\n"),
     ];
     assert_answers(&rt, rt.alloc(), Status::Outside, &cases)
 }
@@ -248,40 +249,38 @@ fn questions_outside_name_their_part(rt: HostRuntime) -> Result<(), Fail> {
 fn other_words_get_the_usage(rt: HostRuntime) -> Result<(), Fail> {
     for texts in [
         [].as_slice(),
-        &["16,32"],
-        &["check"],
         &["4,8", "frob"],
+        &["21,8", "export"],
+        &["check"],
         &["16,32", "check", "now"],
-        &["16,32", "Check"],
-        &["0,8", "check"],
-        &["21,8", "check"],
-        &["4,0", "check"],
         &["4,49", "check"],
-        &["04,8", "check"],
-        &["4,08", "check"],
-        &["+4,8", "check"],
-        &["4,8,", "check"],
         &["4, 8", "check"],
-        &["4", "check"],
-        &[",", "check"],
-        &["", "check"],
-        &["4,8", "value"],
         &["4,8", "value", "pet", "2", "3", "1"],
-        &["4,8", "value", "net", "2", "3"],
-        &["4,8", "value", "net", "2", "3", "1", "1"],
         &["4,8", "value", "ooa", "2", "3", "1"],
-        &["4,8", "value", "ooa", "2", "3", "1", "1", "1"],
-        &["4,8", "value", "net", "02", "3", "1"],
-        &["4,8", "value", "net", "+2", "3", "1"],
-        &["4,8", "value", "net", "-2", "3", "1"],
-        &["4,8", "value", "net", "2", "", "1"],
-        &["4,8", "value", "net", "2", "3", "1 "],
-        &["4,8", "value", "net", "2", "3", "18446744073709551616"],
+        &["4,8", "tree", "net", "02", "3", "1"],
+        &["4,8", "matrix", "net", "2", "3", "18446744073709551616"],
+        &["4,8", "table", "net", "2", "3"],
+        &["4,8", "niederreiter", "2", "3"],
     ] {
         let answer = run(rt.alloc(), texts, ONE, 7)?;
         assert_eq!(rt; answer.0, Status::Words);
         assert_eq!(rt; answer.1.as_slice(), USAGE);
     }
+    Ok(())
+}
+
+#[test]
+fn the_store_and_the_feed_are_looked_at(rt: HostRuntime) -> Result<(), Fail> {
+    let alloc = rt.alloc();
+    let few = words(alloc, &["mint", ":memory:"])?;
+    assert!(rt; matches!(start_of(&few), Start::Usage));
+    let file = words(alloc, &["mint", "store.db", "-", "4,8", "export"])?;
+    assert!(rt; matches!(start_of(&file), Start::Unopened));
+    let memory = words(alloc, &["mint", ":memory:", "-", "4,8", "export"])?;
+    let Start::Command(command) = start_of(&memory) else {
+        return Err("the words start no command")?;
+    };
+    assert_eq!(rt; command.len(), 2);
     Ok(())
 }
 
@@ -344,19 +343,16 @@ fn assert_lines(
 #[test]
 fn texts_of_much_white_space(rt: HostRuntime) -> Result<(), Fail> {
     let cases: [(&[(&[u8], usize)], &[u8]); 8] = [
-        (&[(ONE, 1), (b"\n", 65515)], b"holds one\n"),
-        (
-            &[(ONE, 1), (b"\n", 65516)],
-            b"refused: more than 65536 bytes\n",
-        ),
-        (&[(b"\n", 70000)], b"refused: more than 65536 bytes\n"),
-        (&[(b"\n", 65536)], b"refused: line 1 is no header\n"),
-        (&[(b"\r", 3)], b"refused: line 1 is no header\n"),
-        (&[(b"\0", 100)], b"refused: line 1 is no header\n"),
-        (&[(b" ", 60000)], b"refused: line 1 is no header\n"),
+        (&[(ONE, 1), (b"\n", 65515)], HOLDS),
+        (&[(ONE, 1), (b"\n", 65516)], TOO_LONG),
+        (&[(b"\n", 70000)], TOO_LONG),
+        (&[(b"\n", 65536)], NO_HEADER),
+        (&[(b"\r", 3)], NO_HEADER),
+        (&[(b"\0", 100)], NO_HEADER),
+        (&[(b" ", 60000)], NO_HEADER),
         (
             &[(b"ooa", 1), (b" ", 60000), (b"2 2 1 1 2 one\n10\n", 1)],
-            b"holds one\n",
+            HOLDS,
         ),
     ];
     assert_lines(&rt, rt.alloc(), &cases)
@@ -365,34 +361,16 @@ fn texts_of_much_white_space(rt: HostRuntime) -> Result<(), Fail> {
 #[test]
 fn headers_of_a_hostile_user(rt: HostRuntime) -> Result<(), Fail> {
     let cases: [(&[(&[u8], usize)], &[u8]); 7] = [
-        (
-            &[(b"ooa 2 2 000 1 2 one\n10\n", 1)],
-            b"refused: line 1 is no header\n",
-        ),
-        (
-            &[(b"ooa 2 2 01 1 2 one\n10\n", 1)],
-            b"refused: line 1 is no header\n",
-        ),
-        (
-            &[(b"ooa 2 2 0 1 2 one\n10\n", 1)],
-            b"refused: line 1 is no header\n",
-        ),
-        (
-            &[(b"ooa 2 1000 1 1 2 big\n", 1), (b"1", 1000)],
-            b"refused: line 1 is no header\n",
-        ),
+        (&[(b"ooa 2 2 000 1 2 one\n10\n", 1)], NO_HEADER),
+        (&[(b"ooa 2 2 01 1 2 one\n10\n", 1)], NO_HEADER),
+        (&[(b"ooa 2 2 0 1 2 one\n10\n", 1)], NO_HEADER),
+        (&[(b"ooa 2 1000 1 1 2 big\n", 1), (b"1", 1000)], NO_HEADER),
         (
             &[(b"ooa 2 2 1 1 2 ", 1), (b"n", 41), (b"\n10\n", 1)],
-            b"refused: line 1 is no header\n",
+            NO_HEADER,
         ),
-        (
-            &[(b"ooa 2 2 1 3 2 deep\n10\n01\n11\n", 1)],
-            b"refused: line 1 is no header\n",
-        ),
-        (
-            &[(b"ooa 2 2 1 1 2 one\r\r\n10\n", 1)],
-            b"refused: line 1 is no header\n",
-        ),
+        (&[(b"ooa 2 2 1 3 2 deep\n10\n01\n11\n", 1)], NO_HEADER),
+        (&[(b"ooa 2 2 1 1 2 one\r\r\n10\n", 1)], NO_HEADER),
     ];
     assert_lines(&rt, rt.alloc(), &cases)
 }
@@ -427,37 +405,19 @@ fn claims_over_a_limit(rt: HostRuntime) -> Result<(), Fail> {
 #[test]
 fn rows_of_a_hostile_user(rt: HostRuntime) -> Result<(), Fail> {
     let cases: [(&[(&[u8], usize)], &[u8]); 12] = [
-        (
-            &[(b"ooa 2 999 1 1 2 big\n", 1), (b"1", 998)],
-            b"refused: line 2 is no row\n",
-        ),
-        (&[(b"ooa 2 2 1 1 2 one\n\t1\t0 \n", 1)], b"holds one\n"),
-        (
-            &[(b"ooa 9 2 1 1 2 one\n19\n", 1)],
-            b"refused: line 2 is no row\n",
-        ),
-        (
-            &[(b"ooa 2 2 1 1 1 bad\n12\n", 1)],
-            b"refused: line 2 is no row\n",
-        ),
-        (
-            &[(b"ooa 2 2 1 1 2 one\n1\r0\n", 1)],
-            b"refused: line 2 is no row\n",
-        ),
-        (
-            &[(b"ooa 2 2 1 1 2 one\n10\r\r\n", 1)],
-            b"refused: line 2 is no row\n",
-        ),
+        (&[(b"ooa 2 999 1 1 2 big\n", 1), (b"1", 998)], NO_ROW),
+        (&[(b"ooa 2 2 1 1 2 one\n\t1\t0 \n", 1)], HOLDS),
+        (&[(b"ooa 9 2 1 1 2 one\n19\n", 1)], NO_ROW),
+        (&[(b"ooa 2 2 1 1 1 bad\n12\n", 1)], NO_ROW),
+        (&[(b"ooa 2 2 1 1 2 one\n1\r0\n", 1)], NO_ROW),
+        (&[(b"ooa 2 2 1 1 2 one\n10\r\r\n", 1)], NO_ROW),
         (
             &[(b"ooa 2 2 1 2 2 cut\n10\n0", 1)],
             b"refused: line 3 is no row\n",
         ),
-        (&[(b"ooa 2 2 1 1 2 one\r\n10", 1)], b"holds one\n"),
-        (&[(ONE, 1), (b" \t\r\n", 9), (b" ", 3)], b"holds one\n"),
-        (
-            &[(b"ooa 2 2 1 1 2 one\nsource by hand\n10\n", 1)],
-            b"holds one\n",
-        ),
+        (&[(b"ooa 2 2 1 1 2 one\r\n10", 1)], HOLDS),
+        (&[(ONE, 1), (b" \t\r\n", 9), (b" ", 3)], HOLDS),
+        (&[(b"ooa 2 2 1 1 2 one\nsource by hand\n10\n", 1)], HOLDS),
         (
             &[(b"ooa 2 2 1 1 2 one\nsourcex\n10\n", 1)],
             b"refused: line 2 is no source\n",

@@ -48,8 +48,8 @@ pub fn read_words(words: &[String]) -> Option<Command>
     Some(Command { bounds, task })
 }
 
-// The first word, and the others.
-fn first_word(words: &[String]) -> Option<(&str, &[String])>
+/// The first word, and the others.
+pub(crate) fn first_word(words: &[String]) -> Option<(&str, &[String])>
     ensures { MatchOption result (map string_bytes words.now ≡ [])
         (λ r. map string_bytes words.now ≡ r.0.now ∷ map string_bytes r.1.now) }
 {

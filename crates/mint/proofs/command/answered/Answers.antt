@@ -1,13 +1,13 @@
+use Rattle.std.proofs.Common.{ℕ, List, [], inr, refl, subst}
+use Rattle.mt_system.specs.Statements.{Statement}
+use Rattle.mt_cells.specs.declared.bounds.Bounds.{Bounds}
+use Rattle.mt_answer.specs.Answers.{IsTextFor}
 use Rattle.mint.proofs.command.answered.Goals as goal
 
-pub returns : goal.returns
-returns c = (
-  c.in_default.ensures,
-  record {
-    table = c.in_ok-table.table;
-    bounds = c.in_ok-table.ensures.bounds;
-    all = c.in_ok-table.ensures.rules;
-    list = c.in_ok-table.ensures.list;
-    text = c.in_ok-text.ensures;
-  },
-)
+pub returns-clause-answer : goal.returns-clause-answer
+returns-clause-answer c =
+    let table = c.in_ok-table.table in
+    let question = c.args.question.now in
+    let text = c.in_ok-text.field-0.items in
+    let here = subst (λ (b : Bounds). IsTextFor b table.rules table.list question text) c.in_ok-table.ensures.bounds c.in_ok-text.ensures in
+    inr (c.in_default.ensures, refl, (table.rules, c.in_ok-table.ensures.rules, subst (λ (L : List Statement). IsTextFor c.args.bounds table.rules L question text) c.in_ok-table.ensures.list here))

@@ -1,8 +1,8 @@
-use Rattle.std.proofs.Common.{◌≡◌, ℕ, ◌+◌, List, ◌++◌, take, drop, arith, ap, ◌∙◌, subst, sym}
+use Rattle.std.proofs.Common.{◌≡◌, ℕ, ◌+◌, List, [], ◌++◌, take, drop, arith, ap, ◌∙◌, subst, sym}
 use Rattle.std.proofs.Math.Seq.{take-add}
 use Rattle.mt_io.specs.declared.Failed.{Failed}
-use Rattle.mint.specs.Input.{Taken}
-use Rattle.mint.proofs.InputLemmas.{Taken-more}
+use Rattle.mt_io.specs.Told.{Keeps}
+use Rattle.mint.proofs.InputLemmas.{Keeps-more}
 use Rattle.mint.proofs.input.fill.Goals as goal
 
 pub loop-filled-preserved : goal.loop-filled-preserved
@@ -17,8 +17,8 @@ loop-filled-preserved g c =
     record {
       size = c.read_behind.auto.buffer ∙ i.size;
       within = c.in_ok-count.ensures.within;
-      taken = subst (Taken (left c.args.input.now) (left c.read_behind.new.input)) (sym text)
-          (Taken-more Failed (left c.args.input.now) (left c.loop-filled.input) (left c.read_behind.new.input) (take c.loop-filled.filled old) n (drop c.loop-filled.filled new)
+      taken = subst (λ (xs : List ℕ). Keeps [] (left c.args.input.now) xs (left c.read_behind.new.input)) (sym text)
+          (Keeps-more Failed (left c.args.input.now) (left c.loop-filled.input) (left c.read_behind.new.input) (take c.loop-filled.filled old) n (drop c.loop-filled.filled new)
           i.taken c.in_ok-count.ensures.bytes);
       later = let a = i.later in let b = c.in_ok-count.ensures.cause.later in omega arith;
     }

@@ -1,6 +1,6 @@
 use Rattle.std.proofs.Common.{ℕ, List, [], ◌∷◌, ◌++◌, codes, decimal, ap, sym, ◌∙◌, append_assoc}
-use Rattle.mint.specs.declared.checks.TheConstants.{MOST_CHOICES}
-use Rattle.mint.proofs.texts.choices_line.Goals as goal
+use Rattle.mt_service.specs.declared.gate.TheConstants.{MOST_CHOICES}
+use Rattle.mt_service.proofs.lines.choices_line.Goals as goal
 
 pub returns : goal.returns
 returns c =
