@@ -30,10 +30,14 @@ is_live E n = not (list_any (withdraws n) E)
 abbrev pub IsLive : List Event → ℕ → Type 0
 IsLive E n = (1 ≤ n) × (n ≤ length (imports_of E)) × IsTrue (is_live E n)
 
--- what each import from number n on says, and whether it is live
+-- what import n says, and whether it is live
+abbrev pub entry_of : List Event → ℕ → Statement → Entry
+entry_of E n c = record { cell = cell_by c.form c.system; k = c.k; live = is_live E n }
+
+-- the same of each from number n on
 abbrev pub entries_from : List Event → ℕ → List Statement → List Entry
 entries_from E n [] = []
-entries_from E n (c ∷ L) = record { cell = cell_by c.form c.system; k = c.k; live = is_live E n } ∷ entries_from E (suc n) L
+entries_from E n (c ∷ L) = entry_of E n c ∷ entries_from E (suc n) L
 
 abbrev pub entries_of : List Event → List Entry
 entries_of E = entries_from E 1 (imports_of E)

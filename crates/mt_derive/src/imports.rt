@@ -1,5 +1,5 @@
 //! The accepted events: imports of claims, and their withdrawals.
-ghost use Rattle.std.specs.Prelude.{◌≡◌, ◌≤◌, ◌↔◌, [], length, IsTrue};
+ghost use Rattle.std.specs.Prelude.{◌≡◌, ◌≤◌, ◌↔◌, [], length, IsTrue, IfOk};
 ghost use Rattle.mt_system.specs.Refusals.{wanted_of};
 ghost use Rattle.mt_system.specs.Statements.{statement_of};
 ghost use Rattle.mt_strength.specs.Statements.{Holds};
@@ -50,10 +50,10 @@ impl Model for Imports {
 }
 
 impl Imports {
-    ghost use Rattle.std.specs.Prelude.{◌<◌, ◌-◌, ◌++◌, ◌∷◌, IfOk, MatchOption};
+    ghost use Rattle.std.specs.Prelude.{◌<◌, ◌-◌, ◌++◌, ◌∷◌, MatchOption};
     ghost use Rattle.mt_cells.specs.Cells.{InBounds};
     ghost use Rattle.mt_derive.specs.declared.events.Event.TheVariants.{Import, Withdraw};
-    ghost use Rattle.mt_derive.specs.Events.{imports_of, entries_of, IsLive};
+    ghost use Rattle.mt_derive.specs.Events.{imports_of, entries_of, IsLive, AllFollow};
     ghost use Rattle.mt_derive.specs.Imports.{IsImport, LacksName, IsNamed};
     ghost use Rattle.mt_derive.specs.Nodes.{import_node};
     ghost use Rattle.mt_derive.specs.Places.{IsAt};
@@ -127,7 +127,8 @@ impl Imports {
 
     /// How many events there are.
     pub fn events(&self) -> u32
-        ensures { result ≡ length self.now.events }
+        ensures count { result ≡ length self.now.events }
+        ensures follow { AllFollow self.now.bounds self.now.events }
     {
         self.events.len() as u32
     }
