@@ -125,8 +125,7 @@ value_kept b rules L M c v w kept old new = new.greatest old.tree v (concludes_k
 -- one import more keeps all entries
 pub kept_import : (E : List Event) (c : Statement) → Kept (entries_of E) (entries_of (E ++ Import c ∷ []))
 kept_import E c n low high live =
-    let within : n ≤ length (imports_of E) = omega (arith, high, entries_length E) in
-    (
+    let within : n ≤ length (imports_of E) = omega (arith, high, entries_length E) in (
       omega (arith, within, entries_length (E ++ Import c ∷ []), ap length (imports_append E (Import c ∷ [])), length_more E c),
       entry_import_old E c n low within,
     )
@@ -137,13 +136,15 @@ kept_import E c n low high live =
 -- the entries that are live after a withdrawal were so before it
 pub kept_withdraw : (E : List Event) (i : ℕ) → Kept (entries_of (E ++ Withdraw i ∷ [])) (entries_of E)
 kept_withdraw E i n low high live =
-    let within : n ≤ length (imports_of E) = omega (arith, high, entries_length (E ++ Withdraw i ∷ []), ap length (imports_withdraw E i)) in
-    (omega (arith, within, entries_length E), elim (cases_eq n i) [
-      | inl e ↦
-          let dead : (entry_at (entries_of (E ++ Withdraw n ∷ [])) n).live ≡ false = ap (λ (x : Entry). x.live) (entry_withdrawn E n low within) in
-          absurd (let is : (entry_at (entries_of (E ++ Withdraw n ∷ [])) n).live ≡ true = subst (λ j. (entry_at (entries_of (E ++ Withdraw j ∷ [])) n).live ≡ true) (sym e) live in cc (dead, is))
-      | inr apart ↦ sym (entry_withdraw_other E i n low within apart)
-    ])
+    let within : n ≤ length (imports_of E) = omega (arith, high, entries_length (E ++ Withdraw i ∷ []), ap length (imports_withdraw E i)) in (
+      omega (arith, within, entries_length E),
+      elim (cases_eq n i) [
+        | inl e ↦
+            let dead : (entry_at (entries_of (E ++ Withdraw n ∷ [])) n).live ≡ false = ap (λ (x : Entry). x.live) (entry_withdrawn E n low within) in
+            absurd (let is : (entry_at (entries_of (E ++ Withdraw n ∷ [])) n).live ≡ true = subst (λ j. (entry_at (entries_of (E ++ Withdraw j ∷ [])) n).live ≡ true) (sym e) live in cc (dead, is))
+        | inr apart ↦ sym (entry_withdraw_other E i n low within apart)
+      ],
+    )
 
 -- an axiom's tree concludes over any list
 pub axiom_concludes : (b : Bounds) (rules : RuleSet) (L : List Entry) (x : Axiom) (c : Cell) (k : ℕ) → InBounds b c → Says x c k

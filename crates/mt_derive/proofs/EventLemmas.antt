@@ -14,8 +14,9 @@ use Rattle.mt_derive.specs.declared.events.Event.{Event}
 use Rattle.mt_derive.specs.declared.events.Event.TheVariants.{Import, Withdraw}
 use Rattle.mt_derive.specs.Events.{imports_of, withdraws, is_live, IsLive, Follows, AllFollow}
 use Rattle.mt_derive.specs.Flags.{count_set, AreFlags}
+use Rattle.mt_derive.specs.Imports.{LacksName, IsNamed}
 use Rattle.mt_derive.specs.Places.{IsAt}
-use Rattle.mt_derive.proofs.PlaceLemmas.{place_below, place_push}
+use Rattle.mt_derive.proofs.PlaceLemmas.{place_get, place_below, place_push}
 
 -- ---- one event more
 
@@ -91,7 +92,35 @@ take_imports (Withdraw n ∷ E) (suc i) = take_imports E i
 pub take_event : (E : List Event) (i : ℕ) (e : Event) → IsAt E i e → take (i + 1) E ≡ take i E ++ e ∷ []
 take_event [] i e at = absurd at
 take_event (x ∷ E) zero e at = ap (λ y. y ∷ []) at
-take_event (x ∷ E) (suc i) e at = ap (λ F. x ∷ F) (take_event E i e at)
+take_event (x ∷ E) (suc i) e at =
+    let n : suc i + 1 ≡ suc (i + 1) = omega arith in
+    rw n (ap (λ F. x ∷ F) (take_event E i e at))
+
+-- the event at an index
+pub event_here : (E : List Event) (i : ℕ) (e x : Event) → i < length E → e ≡ get_or E i e → e ≡ x → IsAt E i x
+event_here E i e x below at is = subst (λ y. IsAt E i y) is (place_get E i e below at)
+
+pub more_import : (E : List Event) (i : ℕ) (c : Statement) → IsAt E i (Import c) → imports_of (take (i + 1) E) ≡ imports_of (take i E) ++ c ∷ []
+more_import E i c at = ap imports_of (take_event E i (Import c) at) ∙ imports_append (take i E) (Import c ∷ [])
+
+-- an event that is no import
+pub more_other : (E : List Event) (i : ℕ) (e : Event) → IsAt E i e → ((c : Statement) → e ≢ Import c) → imports_of (take (i + 1) E) ≡ imports_of (take i E)
+more_other E i (Import c) at other = absurd (other c refl)
+more_other E i (Withdraw n) at other = ap imports_of (take_event E i (Withdraw n) at) ∙ imports_withdraw (take i E) n
+
+-- ---- names
+
+-- the first import with a name
+pub named_here : (E : List Event) (i : ℕ) (c : Statement) (name : List ℕ) → IsAt E i (Import c) → LacksName (imports_of (take i E)) name → c.name ≡ name
+    → IsNamed (imports_of E) name (length (imports_of (take i E)) + 1)
+named_here E i c name at lacks named =
+    let number : length (imports_of (take i E)) + 1 - 1 ≡ length (imports_of (take i E)) = omega arith in
+    record {
+      claim = c;
+      place = (omega arith, rw number (import_place E i c at));
+      named = named;
+      first = rw (number, take_imports E i) lacks;
+    }
 
 -- ---- flags
 

@@ -89,7 +89,8 @@ impl Imports {
         let Some(room) = self.free.pop() else {
             unreachable!();
         };
-        self.events.push_reserved(Event::Import(copied(claim, room)));
+        self.events
+            .push_reserved(Event::Import(copied(claim, room)));
         self.live.push_reserved(true);
     }
 
@@ -164,7 +165,7 @@ impl Imports {
         for event in &self.events {
             if let Event::Import(entry) = event {
                 count += 1;
-                if entry.claim().name.bytes() == name.bytes() {
+                if is_named(entry, name) {
                     return Some(count);
                 }
             }
@@ -222,6 +223,12 @@ impl Imports {
         }
         unreachable!()
     }
+}
+
+fn is_named(entry: &Checked, name: Name) -> bool
+    ensures { IsTrue result ↔ (entry.now.name ≡ name) }
+{
+    entry.claim().name.bytes() == name.bytes()
 }
 
 // The cell of the claim's system; a net is an array whose depth is its number of columns.
