@@ -38,19 +38,6 @@ stage_back (stage.Second r) =
     rw (d, e, rule_back r) refl
 stage_back stage.End = refl
 
--- between a rule's stages and the next rule's no stage has spots
-pub past_single : (r : Rule) (g : Stage) → is_pair_rule r ≡ false → IsUsed g → rank (stage.Single r) < rank g → 3 * rule_index r + 3 ≤ rank g
-past_single r (stage.Single t) e u l = omega arith
-past_single r (stage.First t) e u l = elim (cases_lt (rule_index r) (rule_index t)) [
-  | inl x ↦ omega arith
-  | inr x ↦ let same : r ≡ t = rule_apart r t (omega arith) in absurd cc
-]
-past_single r (stage.Second t) e u l = elim (cases_lt (rule_index r) (rule_index t)) [
-  | inl x ↦ omega arith
-  | inr x ↦ let same : r ≡ t = rule_apart r t (omega arith) in absurd cc
-]
-past_single r stage.End e u l = absurd u
-
 -- the first stage of a rule that has spots is the first with spots from its index on
 from_first : (r : Rule) (g : Stage) → IsUsed g → 3 * rule_index r ≤ rank g → rank (first_stage (Some r)) ≤ rank g
 from_first r g u l = elim (cases_Bool (is_pair_rule r)) [
@@ -86,11 +73,6 @@ key_apart g h m d n e a b c f p =
     (sym (stage_back g) ∙ ap stage_of r ∙ stage_back h, omega arith, omega arith)
 
 -- ---- spots
-
-pub top_low : (b : Bounds) (g : Stage) → 1 ≤ top b g
-top_low b (stage.Single r) = omega arith
-top_low b stage.End = omega arith
-top_low b g = b.m_low
 
 top_high : (b : Bounds) (g : Stage) → top b g ≤ MOST_COLUMNS
 top_high b (stage.Single r) = omega arith
@@ -164,7 +146,7 @@ stands b rules c (stage.First r) m d s h p = pair_stands b c (stage.First r) m d
 stands b rules c (stage.Second r) m d s h p = pair_stands b c (stage.Second r) m d s h (pair_rule b r (other c m d s) c p.1.1).0 p.0 refl refl (let l : s + coordinates_of c ≤ b.s_max = (pair_sums b r (other c m d s) c p.1.1).1 in omega arith)
 stands b rules c stage.End m d s h p = absurd p
 
--- no spot of a cell has an m above its reach, and this is not above the top
+-- no spot of a cell has an m above its reach
 pub reach_high : (b : Bounds) (rules : RuleSet) (c : Cell) (g : Stage) (m d s : ℕ) → IsSpot b rules c g m d s → m ≤ reach b c g
 reach_high b rules c (stage.Single r) m d s p = omega arith
 reach_high b rules (Ooa o n t e) (stage.First r) m d s p = let l : n + m ≤ b.m_max = (pair_sums b r (Ooa o n t e) (Ooa o m s d) p.1.1).0 in omega arith
@@ -172,12 +154,6 @@ reach_high b rules (Ooa o n t e) (stage.Second r) m d s p = let l : m + n ≤ b.
 reach_high b rules (Seq o n t) (stage.First r) m d s p = absurd (pair_rule b r (Seq o n t) (Ooa o m s d) p.1.1).1
 reach_high b rules (Seq o n t) (stage.Second r) m d s p = absurd (pair_rule b r (Ooa o m s d) (Seq o n t) p.1.1).1
 reach_high b rules c stage.End m d s p = absurd p
-
-pub reach_top : (b : Bounds) (c : Cell) (g : Stage) → reach b c g ≤ top b g
-reach_top b c (stage.Single r) = omega arith
-reach_top b c stage.End = omega arith
-reach_top b (Ooa o m s d) g = omega arith
-reach_top b (Seq o m s) g = b.m_low
 
 pub holds : (b : Bounds) (rules : RuleSet) (c : Cell) (g : Stage) (m d s : ℕ) → InBounds b c → IsSpot b rules c g m d s → IsInstance b rules (instance_at c g m d s)
 holds b rules c (stage.Single r) m d s h p = record { configured = p.0; first = h; leads = (p.1, refl) }

@@ -22,7 +22,7 @@ use Rattle.mt_rules_basic.proofs.SequenceLemmas.{fewer_sequence, cut_sequence, n
 use Rattle.mt_rules_pair.specs.Pairs.{deepened, beside, zeros, product_digit, uuv_digit}
 use Rattle.mt_rules_pair.proofs.PairLemmas.{product_strength, uuv_strength}
 use Rattle.mt_derive.specs.Systems.{IsWhole, IsSized, IsRuleSystem, IsPairSystem}
-use Rattle.mt_derive.specs.Built.{IsReady, FitTogether, IsPairReady}
+use Rattle.mt_derive.specs.Ready.{IsReady, FitTogether, IsPairReady}
 use Rattle.mt_derive.proofs.FormulaLemmas.{cond_in, cond_at, unit_in, AreSizes, whole_from_digits}
 use Rattle.mt_derive.proofs.WithinLemmas.{IsWithin, from_parts, row_elements, digit_in, same_system}
 use Rattle.mt_derive.proofs.ReadyLemmas.{search, whole_row}

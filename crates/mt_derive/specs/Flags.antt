@@ -1,4 +1,5 @@
--- Internal: for each import, whether it is live, as a list of flags.
+-- Internal: a reader need not believe this.
+-- For each import, whether it is live, as a list of flags.
 use Rattle.std.specs.Prelude.{◌≡◌, ℕ, suc, ◌+◌, Bool, true, cond, List, length, get_or}
 use Rattle.std.specs.List.{sum_by}
 use Rattle.mt_derive.specs.declared.events.Event.{Event}

@@ -1,6 +1,6 @@
 use Rattle.std.proofs.Common.{◌≡◌, length}
 use Rattle.mt_derive.specs.Events.{imports_of}
-use Rattle.mt_derive.specs.Built.{AreKnown}
+use Rattle.mt_derive.specs.Ready.{AreKnown}
 use Rattle.mt_derive.proofs.node_system.build.Given as goal
 
 abbrev pub invariant-loop-place : goal.invariant-loop-place

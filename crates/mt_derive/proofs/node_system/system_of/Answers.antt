@@ -7,7 +7,7 @@ use Rattle.mt_derive.specs.Events.{imports_of}
 use Rattle.mt_derive.specs.Imports.{IsImport}
 use Rattle.mt_derive.specs.Nodes.{IsAxiomNode, IsRuleNode, ShowsClaim, made_of}
 use Rattle.mt_derive.specs.Systems.{IsWhole, IsAxiomSystem, IsRuleSystem, IsPairSystem}
-use Rattle.mt_derive.specs.Built.{IsKnown}
+use Rattle.mt_derive.specs.Ready.{IsKnown}
 use Rattle.mt_derive.proofs.PlaceLemmas.{place_below, place_same}
 use Rattle.mt_derive.proofs.NodeLemmas.{is_one, is_first, is_second}
 use Rattle.mt_derive.proofs.BuildLemmas.{axiom_known, import_known, parent_known, parent_ready, parents_ready, rule_known, pair_known, parent_of, parents_of, parent_place, axiom_of}

@@ -17,7 +17,7 @@ loop-s-preserved g c =
     elim c.if-s-line.branch [
       | then-s-line w ↦ rw w.self-is (
         grows_trans c.args.self.now c.loop-s.self w.offer.new.self c.loop-s.invariant.0 w.offer.ensures.grows,
-        line_step c.args.self.now.bounds c.args.self.now.rules c.loop-s.self w.offer.new.self c.args.cell c.args.line.now.stage c.args.line.now.m c.args.line.now.depth c.loop-s.s _ w.offer.ensures.grows c.loop-s.invariant.1 w.instance-instance.ensures w.offer.ensures.settled,
+        line_step c.args.self.now.bounds c.args.self.now.rules c.loop-s.self w.offer.new.self c.args.cell c.args.line.now.stage c.args.line.now.m c.args.line.now.depth c.loop-s.s _ w.offer.ensures.grows c.loop-s.invariant.1 w.instance-instance.ensures w.offer.ensures.propagated,
       )
       | else-s-line w ↦ rw w.self-is (
         c.loop-s.invariant.0,
