@@ -1,6 +1,5 @@
 -- A tree that concludes a value over imports that hold, of whole systems, has a system.
 use Rattle.std.proofs.Common.{ℕ, suc, ◌-◌, ◌==◌, cond, ltb, List, length, refl, arith}
-use Rattle.std.proofs.lemmas.List.{length-map}
 use Rattle.mt_linear.specs.declared.order.Order.{Order}
 use Rattle.mt_linear.specs.Field.{number_of}
 use Rattle.mt_linear.proofs.FieldLaws.{number_pos, one_below}
@@ -14,10 +13,12 @@ use Rattle.mt_cells.specs.declared.rules.RuleSet.{RuleSet}
 use Rattle.mt_cells.specs.Cells.{InBounds}
 use Rattle.mt_derive.specs.Trees.{Axiom, zero_rows, constant, identity, parity, niederreiter, Says, Tree, axiom_at, imported, one, two, cell_of, value_of, IsTree}
 use Rattle.mt_derive.specs.Places.{IsAt}
-use Rattle.mt_derive.specs.Imports.{entry_of, entries_of, AllHold}
+use Rattle.mt_derive.specs.declared.events.Event.{Event}
+use Rattle.mt_derive.specs.Events.{imports_of, entries_of}
+use Rattle.mt_derive.specs.Imports.{AllHold}
 use Rattle.mt_derive.specs.Systems.{IsWhole, IsAxiomSystem, IsSystemOf}
 use Rattle.mt_derive.specs.Laws.{AllWhole, TreesHaveSystems}
-use Rattle.mt_derive.proofs.PlaceLemmas.{place_some}
+use Rattle.mt_derive.proofs.EntryLemmas.{entries_length, import_there}
 use Rattle.mt_derive.proofs.FormulaLemmas.{cond_in, unit_in, AreSizes, whole_from_digits}
 use Rattle.mt_derive.proofs.ExpansionLemmas.{matrices_exist}
 use Rattle.mt_derive.proofs.SoundLemmas.{holds_at, tree_whole, tree_within}
@@ -51,29 +52,29 @@ axiom_exists b x (Seq o m s) k i says = absurd says
 
 -- ---- trees
 
-tree_exists : (b : Bounds) (rules : RuleSet) (L : List Statement) → AllHold L → AllWhole L → (t : Tree) → IsTree b rules (entries_of L) t
-    → (a : Matrices) × IsSystemOf L t a
-tree_exists b rules L all wholes (axiom_at x c k) tree =
+tree_exists : (b : Bounds) (rules : RuleSet) (E : List Event) → AllHold (imports_of E) → AllWhole (imports_of E) → (t : Tree) → IsTree b rules (entries_of E) t
+    → (a : Matrices) × IsSystemOf (imports_of E) t a
+tree_exists b rules E all wholes (axiom_at x c k) tree =
     let made = axiom_exists b x c k tree.0 tree.1 in (made.0, (made.1, made.2))
-tree_exists b rules L all wholes (imported n) tree =
-    let place : (c : Statement) × IsAt L (n - 1) c = place_some L (n - 1) (omega (arith, tree.0, tree.1, length-map L entry_of)) in
-    (place.0.system, (holds_at (λ c. IsWhole c.system) L (n - 1) place.0 wholes place.1, place.0, (tree.0, place.1), refl))
-tree_exists b rules L all wholes (one r c t) tree =
-    let p : (a : Matrices) × IsSystemOf L t a = tree_exists b rules L all wholes t tree.0 in
-    let whole : IsWhole p.0 = tree_whole L t p.0 p.1 in
+tree_exists b rules E all wholes (imported n) tree =
+    let place : (c : Statement) × IsAt (imports_of E) (n - 1) c = import_there E n tree.0 (omega (arith, tree.1, entries_length E)) in
+    (place.0.system, (holds_at (λ c. IsWhole c.system) (imports_of E) (n - 1) place.0 wholes place.1, place.0, (tree.0, place.1), refl))
+tree_exists b rules E all wholes (one r c t) tree =
+    let p : (a : Matrices) × IsSystemOf (imports_of E) t a = tree_exists b rules E all wholes t tree.0 in
+    let whole : IsWhole p.0 = tree_whole (imports_of E) t p.0 p.1 in
     let made = rule_exists r p.0 whole
-    (ready b r (cell_of (entries_of L) t) (value_of (entries_of L) t) p.0 tree.1.first tree.1.leads.0 tree.2 whole (tree_within b rules L all t p.0 tree.0 p.1)) in
+    (ready b r (cell_of (entries_of E) t) (value_of (entries_of E) t) p.0 tree.1.first tree.1.leads.0 tree.2 whole (tree_within b rules E all t p.0 tree.0 p.1)) in
     (made.0, (made.1, p.0, p.1, made.2))
-tree_exists b rules L all wholes (two r c t u) tree =
-    let p : (a : Matrices) × IsSystemOf L t a = tree_exists b rules L all wholes t tree.0 in
-    let q : (a : Matrices) × IsSystemOf L u a = tree_exists b rules L all wholes u tree.1 in
-    let whole : IsWhole p.0 = tree_whole L t p.0 p.1 in
-    let also : IsWhole q.0 = tree_whole L u q.0 q.1 in
+tree_exists b rules E all wholes (two r c t u) tree =
+    let p : (a : Matrices) × IsSystemOf (imports_of E) t a = tree_exists b rules E all wholes t tree.0 in
+    let q : (a : Matrices) × IsSystemOf (imports_of E) u a = tree_exists b rules E all wholes u tree.1 in
+    let whole : IsWhole p.0 = tree_whole (imports_of E) t p.0 p.1 in
+    let also : IsWhole q.0 = tree_whole (imports_of E) u q.0 q.1 in
     let made = pair_exists r p.0 q.0 whole also
-    (pair_ready b r (cell_of (entries_of L) t) (cell_of (entries_of L) u) (value_of (entries_of L) t) (value_of (entries_of L) u) p.0 q.0
-    tree.2.leads.1 whole also (tree_within b rules L all t p.0 tree.0 p.1) (tree_within b rules L all u q.0 tree.1 q.1)) in
+    (pair_ready b r (cell_of (entries_of E) t) (cell_of (entries_of E) u) (value_of (entries_of E) t) (value_of (entries_of E) u) p.0 q.0
+    tree.2.leads.1 whole also (tree_within b rules E all t p.0 tree.0 p.1) (tree_within b rules E all u q.0 tree.1 q.1)) in
     (made.0, (made.1, p.0, q.0, p.1, q.1, made.2))
 
 -- trees have systems, whatever the bounds, the rules and the claims
-pub trees_have_systems : (b : Bounds) (rules : RuleSet) (L : List Statement) → TreesHaveSystems b rules L
-trees_have_systems b rules L all wholes t c k concludes = tree_exists b rules L all wholes t concludes.0
+pub trees_have_systems : (b : Bounds) (rules : RuleSet) (E : List Event) → TreesHaveSystems b rules E
+trees_have_systems b rules E all wholes t c k concludes = tree_exists b rules E all wholes t concludes.0

@@ -7,6 +7,8 @@ pub mod FormulaLemmas
 pub mod ExpansionLemmas
 pub mod PlaceLemmas
 pub mod NodeLemmas
+pub mod EventLemmas
+pub mod EntryLemmas
 pub mod MarkLemmas
 pub mod FoundLemmas
 pub mod ReadyLemmas

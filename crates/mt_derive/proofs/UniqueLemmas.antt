@@ -15,6 +15,8 @@ use Rattle.mt_cells.specs.declared.cells.Cell.{Cell}
 use Rattle.mt_cells.specs.declared.cells.Cell.TheVariants.{Ooa, Seq}
 use Rattle.mt_derive.specs.Trees.{Axiom, zero_rows, constant, identity, parity, niederreiter, axiom_at, imported, one, two}
 use Rattle.mt_derive.specs.Systems.{IsWhole, IsAxiomSystem, IsRuleSystem, IsPairSystem}
+use Rattle.mt_derive.specs.declared.events.Event.{Event}
+use Rattle.mt_derive.specs.Events.{imports_of}
 use Rattle.mt_derive.specs.Laws.{TreesHaveOneSystem}
 use Rattle.mt_derive.proofs.PlaceLemmas.{place_same}
 use Rattle.mt_derive.proofs.WithinLemmas.{row_elements, same_system}
@@ -73,16 +75,16 @@ axiom_same x (Seq o m s) a b whole also h g = absurd h
 -- ---- trees
 
 -- a tree has at most one system, whatever the claims
-pub trees_have_one_system : (L : List Statement) → TreesHaveOneSystem L
-trees_have_one_system L (axiom_at x c k) a b made other = axiom_same x c a b made.0 other.0 made.1 other.1
-trees_have_one_system L (imported n) a b made other =
-    let same : made.1 ≡ other.1 = place_same L (n - 1) made.1 other.1 made.2.1 other.2.1 in
+pub trees_have_one_system : (E : List Event) → TreesHaveOneSystem E
+trees_have_one_system E (axiom_at x c k) a b made other = axiom_same x c a b made.0 other.0 made.1 other.1
+trees_have_one_system E (imported n) a b made other =
+    let same : made.1 ≡ other.1 = place_same (imports_of E) (n - 1) made.1 other.1 made.2.1 other.2.1 in
     made.3 ∙ ap (λ (c : Statement). c.system) same ∙ sym other.3
-trees_have_one_system L (one r c t) a b made other =
-    let same : other.1 ≡ made.1 = trees_have_one_system L t other.1 made.1 other.2 made.2 in
+trees_have_one_system E (one r c t) a b made other =
+    let same : other.1 ≡ made.1 = trees_have_one_system E t other.1 made.1 other.2 made.2 in
     rule_same r made.1 a b made.0 other.0 made.3 (subst (λ p. IsRuleSystem r p b) same other.3)
-trees_have_one_system L (two r c t u) a b made other =
-    let first : other.1 ≡ made.1 = trees_have_one_system L t other.1 made.1 other.3 made.3 in
-    let second : other.2 ≡ made.2 = trees_have_one_system L u other.2 made.2 other.4 made.4 in
+trees_have_one_system E (two r c t u) a b made other =
+    let first : other.1 ≡ made.1 = trees_have_one_system E t other.1 made.1 other.3 made.3 in
+    let second : other.2 ≡ made.2 = trees_have_one_system E u other.2 made.2 other.4 made.4 in
     pair_same r made.1 made.2 a b made.0 other.0 made.5
     (subst (λ q. IsPairSystem r made.1 q b) second (subst (λ p. IsPairSystem r p other.2 b) first other.5))

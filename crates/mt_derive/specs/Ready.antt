@@ -7,9 +7,9 @@ use Rattle.mt_cells.specs.declared.rules.Rule.{Rule}
 use Rattle.mt_cells.specs.declared.rules.Rule.TheVariants.{Fewer, Shallower, Deeper, Longer, QuotientKeep, QuotientDrop, SeqFewer, SeqCut, SeqToNet, Product, Uuv}
 use Rattle.mt_derive.specs.declared.nodes.Made.TheVariants as made
 use Rattle.mt_derive.specs.declared.nodes.Node.{Node}
-use Rattle.mt_derive.specs.Imports.{IsImport, entry_of}
+use Rattle.mt_derive.specs.Imports.{IsImport}
 use Rattle.mt_derive.specs.Places.{IsAt}
-use Rattle.mt_derive.specs.Nodes.{IsParent}
+use Rattle.mt_derive.specs.Nodes.{IsParent, ShowsClaim}
 use Rattle.mt_derive.specs.Built.{IsBuilt}
 
 -- a system of the node whose value is not over its columns
@@ -25,7 +25,7 @@ AreKnown nodes L order systems = (place : ℕ) (a : Matrices) → IsAt systems p
 abbrev pub ShowsImport : List Node → List Statement → ℕ → Type 0
 ShowsImport nodes L n =
     (i : ℕ) (node : Node) → IsAt nodes n node → node.made ≡ made.Import i
-    → (c : Statement) × IsImport L i c × (entry_of c ≡ record { cell = node.cell; k = node.k })
+    → (c : Statement) × IsImport L i c × ShowsClaim node c
 
 -- each parent of the node, where it stands before it, is one of the first count numbers
 abbrev pub HasParentIn : List Node → List ℕ → ℕ → ℕ → Type 0

@@ -1,6 +1,7 @@
 //! The system of a node.
 ghost use Rattle.std.specs.Prelude.{◌≡◌, ◌≢◌, ℕ, ◌<◌, ◌≤◌, length, get_or, IfOk, MatchOption};
 ghost use Rattle.mt_derive.specs.Places.{IsAt};
+ghost use Rattle.mt_derive.specs.Events.{imports_of};
 ghost use Rattle.mt_derive.specs.Nodes.{ShowsImports};
 ghost use Rattle.mt_derive.specs.Systems.{IsWhole};
 ghost use Rattle.mt_derive.specs.Built.{IsBuilt};
@@ -58,11 +59,11 @@ fn system_of(
     number: u32,
 ) -> Result<System, AllocError>
     requires node { number < length nodes.now.list }
-    requires shown { ShowsImport nodes.now.list imports.now.list number }
+    requires shown { ShowsImport nodes.now.list (imports_of imports.now.events) number }
     requires few { length systems.now ≤ length order.now }
-    requires known { AreKnown nodes.now.list imports.now.list order.now systems.now }
+    requires known { AreKnown nodes.now.list (imports_of imports.now.events) order.now systems.now }
     requires parent { HasParentIn nodes.now.list order.now (length systems.now) number }
-    ensures { IfOk result (IsKnown nodes.now.list imports.now.list number) }
+    ensures { IfOk result (IsKnown nodes.now.list (imports_of imports.now.events) number) }
 {
     let node = nodes.get(number);
     match node.made {
@@ -82,11 +83,11 @@ fn system_of(
 
 /// The system of node `n`: each node of its tree is built once, after its parents.
 ///
-/// It has the node's cell and value, whatever the tree.
+/// It has the node's cell and value, whatever the tree. The imports of the tree are live.
 pub fn build(alloc: Global, nodes: &Nodes, imports: &Imports, n: u32) -> Result<System, AllocError>
     requires node { n < length nodes.now.list }
-    requires imports { ShowsImports nodes.now.list imports.now.list n }
-    ensures { IfOk result (IsBuilt nodes.now.list imports.now.list n) }
+    requires imports { ShowsImports nodes.now.list imports.now.events n }
+    ensures { IfOk result (IsBuilt nodes.now.list (imports_of imports.now.events) n) }
 {
     let order = reachable(alloc, nodes, n)?;
     let mut systems = Vec::with_capacity(alloc, order.len())?;

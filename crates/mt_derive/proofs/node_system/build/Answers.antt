@@ -1,6 +1,7 @@
 use Rattle.std.proofs.Common.{◌≡◌, ◌-◌, ◌<◌, [], ◌∷◌, ◌++◌, length, get_or, sym, ap, ◌∙◌, subst, arith}
 use Rattle.std.proofs.lemmas.List.{get_or_read, length_push}
 use Rattle.std.specs.Prelude.{Contains}
+use Rattle.mt_derive.specs.Events.{imports_of}
 use Rattle.mt_derive.specs.Ready.{IsKnown}
 use Rattle.mt_derive.proofs.PlaceLemmas.{place_last}
 use Rattle.mt_derive.proofs.NodeLemmas.{reaches_self}
@@ -10,7 +11,7 @@ use Rattle.mt_derive.proofs.node_system.build.Goals as goal
 pub system_of-requires-clause-shown : goal.system_of-requires-clause-shown
 system_of-requires-clause-shown c =
     let below : c.loop-place.place < length c.in_ok-order.order.items = omega (arith, c.loop-place-test.true, c.len-place-end.ensures) in
-    shown_at c.args.nodes.now.list c.args.imports.now.list c.args.n c.loop-place.place c.index.result.now c.in_ok-order.order.items
+    shown_at c.args.nodes.now.list c.args.imports.now.events c.args.n c.loop-place.place c.index.result.now c.in_ok-order.order.items
     c.requires.imports c.in_ok-order.ensures below (sym (get_or_read _ _ _ below c.index.ensures 0))
 
 pub system_of-requires-clause-known : goal.system_of-requires-clause-known
@@ -28,9 +29,9 @@ loop-place-preserved c =
     let below : c.loop-place.place < length c.in_ok-order.order.items = omega (arith, c.loop-place-test.true, c.len-place-end.ensures) in
     rw c.in_ok-push.ensures.items (
       omega (arith, length_push c.loop-place.systems.items c.in_ok-system.system, c.loop-place.invariant.0),
-      known_push c.args.nodes.now.list c.args.imports.now.list c.in_ok-order.order.items c.loop-place.systems.items c.loop-place.place
+      known_push c.args.nodes.now.list (imports_of c.args.imports.now.events) c.in_ok-order.order.items c.loop-place.systems.items c.loop-place.place
           c.in_ok-system.system c.loop-place.invariant.0 c.loop-place.invariant.1
-          (subst (λ q. IsKnown c.args.nodes.now.list c.args.imports.now.list q c.in_ok-system.system) (get_or_read _ _ _ below c.index.ensures 0)
+          (subst (λ q. IsKnown c.args.nodes.now.list (imports_of c.args.imports.now.events) q c.in_ok-system.system) (get_or_read _ _ _ below c.index.ensures 0)
           c.in_ok-system.ensures),
     )
 
@@ -53,7 +54,7 @@ returns c =
       c.loop-place.auto.place-end,
       c.len-place-end.ensures,
     ) in
-    let known : IsKnown c.args.nodes.now.list c.args.imports.now.list (get_or c.in_ok-order.order.items (length c.pop.new.self.items) 0) c.in-Some.system =
+    let known : IsKnown c.args.nodes.now.list (imports_of c.args.imports.now.events) (get_or c.in_ok-order.order.items (length c.pop.new.self.items) 0) c.in-Some.system =
     c.loop-place.invariant.1 (length c.pop.new.self.items) c.in-Some.system (rw all (place_last c.pop.new.self.items c.in-Some.system)) in
-    (subst (λ q. IsKnown c.args.nodes.now.list c.args.imports.now.list q c.in-Some.system)
+    (subst (λ q. IsKnown c.args.nodes.now.list (imports_of c.args.imports.now.events) q c.in-Some.system)
     (ap (λ k. get_or c.in_ok-order.order.items k 0) last ∙ c.in_ok-order.ensures.last) known).built

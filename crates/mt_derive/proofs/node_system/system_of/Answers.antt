@@ -3,8 +3,9 @@ use Rattle.mt_system.specs.Statements.{Statement, statement_of}
 use Rattle.mt_derive.specs.Trees.{Axiom}
 use Rattle.mt_derive.specs.declared.nodes.Node.{Node}
 use Rattle.mt_derive.specs.Places.{IsAt}
-use Rattle.mt_derive.specs.Imports.{IsImport, entry_of}
-use Rattle.mt_derive.specs.Nodes.{IsAxiomNode, IsRuleNode, made_of}
+use Rattle.mt_derive.specs.Events.{imports_of}
+use Rattle.mt_derive.specs.Imports.{IsImport}
+use Rattle.mt_derive.specs.Nodes.{IsAxiomNode, IsRuleNode, ShowsClaim, made_of}
 use Rattle.mt_derive.specs.Systems.{IsWhole, IsAxiomSystem, IsRuleSystem, IsPairSystem}
 use Rattle.mt_derive.specs.Ready.{IsKnown}
 use Rattle.mt_derive.proofs.PlaceLemmas.{place_below, place_same}
@@ -17,9 +18,9 @@ get-requires-clause-from c = (c.requires.shown c.in-Import.n c.get-node.result c
 
 pub get-requires-clause-to : goal.get-requires-clause-to
 get-requires-clause-to c =
-    let import : (x : Statement) × IsImport c.args.imports.now.list c.in-Import.n x × (entry_of x ≡ record { cell = c.get-node.result.cell; k = c.get-node.result.k }) =
+    let import : (x : Statement) × IsImport (imports_of c.args.imports.now.events) c.in-Import.n x × ShowsClaim c.get-node.result x =
     c.requires.shown c.in-Import.n c.get-node.result c.get-node.ensures.place c.in-Import.is in
-    omega (arith, place_below c.args.imports.now.list (c.in-Import.n - 1) import.0 import.1.1, import.1.0)
+    omega (arith, place_below (imports_of c.args.imports.now.events) (c.in-Import.n - 1) import.0 import.1.1, import.1.0)
 
 pub system_at-parent-requires-clause-place : goal.system_at-parent-requires-clause-place
 system_at-parent-requires-clause-place c = parent_place c.args.nodes.now.list _ _ c.args.number c.get-node.result c.in-One.parent
@@ -37,7 +38,7 @@ pub made_by-requires : goal.made_by-requires
 made_by-requires c =
     let x : (x : Node) × IsAt c.args.nodes.now.list c.in-One.parent x × IsRuleNode c.in-One.rule x None c.get-node.result =
     parent_of c.args.nodes.now.list c.args.number c.get-node.result c.in-One.rule c.in-One.parent c.get-node.ensures.right c.in-One.is in
-    parent_ready c.args.nodes.now.list c.args.imports.now.list c.in-One.parent c.in-One.rule x.0 c.get-node.result c.system_at-parent.result.now
+    parent_ready c.args.nodes.now.list (imports_of c.args.imports.now.events) c.in-One.parent c.in-One.rule x.0 c.get-node.result c.system_at-parent.result.now
     x.1 x.2
     (parent_known _ _ c.args.order.now c.args.systems.now c.in-One.parent c.system_at-parent.result.now c.requires.known c.system_at-parent.ensures)
 
@@ -46,7 +47,7 @@ made_by_two-requires c =
     let x : (x y : Node) × IsAt c.args.nodes.now.list c.in-Two.first x × IsAt c.args.nodes.now.list c.in-Two.second y
     × IsRuleNode c.in-Two.rule x (Some y) c.get-node.result =
     parents_of c.args.nodes.now.list c.args.number c.get-node.result c.in-Two.rule c.in-Two.first c.in-Two.second c.get-node.ensures.right c.in-Two.is in
-    parents_ready c.args.nodes.now.list c.args.imports.now.list c.in-Two.first c.in-Two.second c.in-Two.rule x.0 x.1 c.get-node.result
+    parents_ready c.args.nodes.now.list (imports_of c.args.imports.now.events) c.in-Two.first c.in-Two.second c.in-Two.rule x.0 x.1 c.get-node.result
     c.system_at-first.result.now c.system_at-second.result.now x.2 x.3 x.4
     (parent_known _ _ c.args.order.now c.args.systems.now c.in-Two.first c.system_at-first.result.now c.requires.known c.system_at-first.ensures)
     (parent_known _ _ c.args.order.now c.args.systems.now c.in-Two.second c.system_at-second.result.now c.requires.known c.system_at-second.ensures)
@@ -59,21 +60,21 @@ axiom_system-requires c =
 
 pub returns-in_ok-copy-in-Import : goal.returns-in_ok-copy-in-Import
 returns-in_ok-copy-in-Import c =
-    let import : (x : Statement) × IsImport c.args.imports.now.list c.in-Import.n x × (entry_of x ≡ record { cell = c.get-node.result.cell; k = c.get-node.result.k }) =
+    let import : (x : Statement) × IsImport (imports_of c.args.imports.now.events) c.in-Import.n x × ShowsClaim c.get-node.result x =
     c.requires.shown c.in-Import.n c.get-node.result c.get-node.ensures.place c.in-Import.is in
     let same : import.0 ≡ statement_of c.get.result.now =
-    place_same c.args.imports.now.list (c.in-Import.n - 1) import.0 (statement_of c.get.result.now) import.1.1 c.get.ensures.place.1 in
+    place_same (imports_of c.args.imports.now.events) (c.in-Import.n - 1) import.0 (statement_of c.get.result.now) import.1.1 c.get.ensures.place.1 in
     let copied : c.whole.result ≡ c.get.result.now.system = c.whole.ensures.same ∙ c.in_ok-copy-in-Import.ensures in
-    subst (λ z. IsKnown c.args.nodes.now.list c.args.imports.now.list c.args.number z) (sym copied)
-    (import_known c.args.nodes.now.list c.args.imports.now.list c.args.number c.in-Import.n c.get-node.result (statement_of c.get.result.now)
-    c.get-node.ensures.place c.in-Import.is c.get.ensures.place (ap entry_of (sym same) ∙ import.2) (subst IsWhole copied c.whole.ensures.whole)
+    subst (λ z. IsKnown c.args.nodes.now.list (imports_of c.args.imports.now.events) c.args.number z) (sym copied)
+    (import_known c.args.nodes.now.list (imports_of c.args.imports.now.events) c.args.number c.in-Import.n c.get-node.result (statement_of c.get.result.now)
+    c.get-node.ensures.place c.in-Import.is c.get.ensures.place (subst (ShowsClaim c.get-node.result) same import.2) (subst IsWhole copied c.whole.ensures.whole)
     c.get.result.now.is_claim c.get.ensures.holds)
 
 pub returns-in_ok-made_by-in-One : goal.returns-in_ok-made_by-in-One
 returns-in_ok-made_by-in-One c =
     let x : (x : Node) × IsAt c.args.nodes.now.list c.in-One.parent x × IsRuleNode c.in-One.rule x None c.get-node.result =
     parent_of c.args.nodes.now.list c.args.number c.get-node.result c.in-One.rule c.in-One.parent c.get-node.ensures.right c.in-One.is in
-    rule_known c.args.nodes.now.list c.args.imports.now.list c.args.number c.in-One.parent c.in-One.rule x.0 c.get-node.result
+    rule_known c.args.nodes.now.list (imports_of c.args.imports.now.events) c.args.number c.in-One.parent c.in-One.rule x.0 c.get-node.result
     c.system_at-parent.result.now c.whole-in-One.result c.get-node.ensures.place c.in-One.is x.1 x.2
     (parent_known _ _ c.args.order.now c.args.systems.now c.in-One.parent c.system_at-parent.result.now c.requires.known c.system_at-parent.ensures)
     c.whole-in-One.ensures.whole
@@ -84,7 +85,7 @@ returns-in_ok-made_by_two-in-Two c =
     let x : (x y : Node) × IsAt c.args.nodes.now.list c.in-Two.first x × IsAt c.args.nodes.now.list c.in-Two.second y
     × IsRuleNode c.in-Two.rule x (Some y) c.get-node.result =
     parents_of c.args.nodes.now.list c.args.number c.get-node.result c.in-Two.rule c.in-Two.first c.in-Two.second c.get-node.ensures.right c.in-Two.is in
-    pair_known c.args.nodes.now.list c.args.imports.now.list c.args.number c.in-Two.first c.in-Two.second c.in-Two.rule x.0 x.1 c.get-node.result
+    pair_known c.args.nodes.now.list (imports_of c.args.imports.now.events) c.args.number c.in-Two.first c.in-Two.second c.in-Two.rule x.0 x.1 c.get-node.result
     c.system_at-first.result.now c.system_at-second.result.now c.whole-in-Two.result c.get-node.ensures.place c.in-Two.is x.2 x.3 x.4
     (parent_known _ _ c.args.order.now c.args.systems.now c.in-Two.first c.system_at-first.result.now c.requires.known c.system_at-first.ensures)
     (parent_known _ _ c.args.order.now c.args.systems.now c.in-Two.second c.system_at-second.result.now c.requires.known c.system_at-second.ensures)
@@ -97,6 +98,6 @@ returns-in_ok-axiom_system-in_default c =
     let x : (x : Axiom) × IsAxiomNode x c.get-node.result × (c.get-node.result.made ≡ made_of x) =
     axiom_of (take c.args.number c.args.nodes.now.list) c.get-node.result c.get-node.ensures.right c.in_default.not-Import c.in_default.not-One c.in_default.not-Two in
     let made : IsAxiomSystem x.0 c.get-node.result.cell c.in_ok-axiom_system-in_default.field-0 = c.in_ok-axiom_system-in_default.ensures x.0 x.2 in
-    axiom_known c.args.nodes.now.list c.args.imports.now.list c.args.number c.get-node.result x.0 c.get-node.ensures.right.0.0 c.whole-in_default.result
+    axiom_known c.args.nodes.now.list (imports_of c.args.imports.now.events) c.args.number c.get-node.result x.0 c.get-node.ensures.right.0.0 c.whole-in_default.result
     c.get-node.ensures.place x.2 c.get-node.ensures.right.0.1 x.1 c.whole-in_default.ensures.whole
     (subst (IsAxiomSystem x.0 c.get-node.result.cell) (sym c.whole-in_default.ensures.same) made)

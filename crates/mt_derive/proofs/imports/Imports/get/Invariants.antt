@@ -1,0 +1,10 @@
+use Rattle.std.proofs.Common.{◌≡◌, ◌<◌, length, take}
+use Rattle.mt_derive.specs.Events.{imports_of}
+use Rattle.mt_derive.proofs.imports.Imports.get.Given as goal
+
+-- the imports so far are counted, and are fewer than n
+abbrev pub invariant-loop-event : goal.invariant-loop-event
+invariant-loop-event l = record {
+  count : l.count ≡ length (imports_of (take l.event-index l.event-items));
+  few : l.count < l.n;
+}
