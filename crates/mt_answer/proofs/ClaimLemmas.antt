@@ -17,7 +17,7 @@ use Rattle.mt_cells.specs.Cells.{InBounds, columns_of}
 use Rattle.mt_derive.specs.Trees.{Tree, Concludes}
 use Rattle.mt_derive.specs.declared.nodes.Node.{Node}
 use Rattle.mt_derive.specs.Built.{IsBuilt}
-use Rattle.mt_derive.specs.Imports.{entries_of}
+use Rattle.mt_derive.specs.Events.{entries_of, imports_of}
 use Rattle.mt_derive.specs.Systems.{IsSystemOf, Has}
 use Rattle.mt_derive.proofs.ConcludedLemmas.{tree_same}
 use Rattle.mt_derive.proofs.PlaceLemmas.{place_same}
@@ -68,26 +68,26 @@ claim_fits b a c system k asked has low =
     (subst (λ (x : Cell). Has x system k) asked.cell_is has) (subst (λ (x : Cell). k ≤ columns_of x) asked.cell_is low)
 
 -- what is built of the node that a table names is what its tree makes, and has the cell's greatest value
-pub built_served : (t : Contents) (c : Cell) (n : ℕ) (a : Matrices) → (s : IsServed t c n) → IsBuilt t.nodes.list t.list n a
-    → IsSystemOf t.list s.concluded.tree a × Has c a s.node.k
+pub built_served : (t : Contents) (c : Cell) (n : ℕ) (a : Matrices) → (s : IsServed t c n) → IsBuilt t.nodes.list (imports_of t.events) n a
+    → IsSystemOf (imports_of t.events) s.concluded.tree a × Has c a s.node.k
 built_served t c n a s built = (
-  subst (λ (x : Tree). IsSystemOf t.list x a) (tree_same t.nodes.list n built.tree s.concluded.tree built.unfolds s.concluded.unfolds) built.made,
+  subst (λ (x : Tree). IsSystemOf (imports_of t.events) x a) (tree_same t.nodes.list n built.tree s.concluded.tree built.unfolds s.concluded.unfolds) built.made,
   subst (λ (x : Cell). Has x a s.node.k) s.cell
       (subst (λ (x : Node). Has x.cell a x.k) (place_same t.nodes.list n built.node s.node built.place s.place) built.has),
 )
 
 -- a claim of what is built of that node
-pub claimed : (t : Contents) (kind : Kind) (c : Cell) (n : ℕ) (system : Matrices) (claim : Claim) → (s : IsServed t c n) → IsBuilt t.nodes.list t.list n system
+pub claimed : (t : Contents) (kind : Kind) (c : Cell) (n : ℕ) (system : Matrices) (claim : Claim) → (s : IsServed t c n) → IsBuilt t.nodes.list (imports_of t.events) n system
     → claim.k ≡ s.node.k → claim.system ≡ system
-    → statement_of claim ≡ record { form = form_of kind; name = codes "mint"; note = []; k = claim.k; system = claim.system } → IsClaimed t.bounds t.rules t.list kind c claim
+    → statement_of claim ≡ record { form = form_of kind; name = codes "mint"; note = []; k = claim.k; system = claim.system } → IsClaimed t.bounds t.rules t.events kind c claim
 claimed t kind c n system claim s built k is said = record {
   value = record {
     tree = s.concluded.tree;
-    reached = subst (λ z. Concludes t.bounds t.rules (entries_of t.list) s.concluded.tree c z) (sym k)
-        (subst (λ (x : Cell). Concludes t.bounds t.rules (entries_of t.list) s.concluded.tree x s.node.k) s.cell s.concluded.concludes);
+    reached = subst (λ z. Concludes t.bounds t.rules (entries_of t.events) s.concluded.tree c z) (sym k)
+        (subst (λ (x : Cell). Concludes t.bounds t.rules (entries_of t.events) s.concluded.tree x s.node.k) s.cell s.concluded.concludes);
     greatest = λ u j h. rw k (s.value.greatest u j h);
   };
-  made = subst (λ (a : Matrices). IsSystemOf t.list s.concluded.tree a) (sym is) (built_served t c n system s built).0;
+  made = subst (λ (a : Matrices). IsSystemOf (imports_of t.events) s.concluded.tree a) (sym is) (built_served t c n system s built).0;
   has = subst (λ z. Has c claim.system z) (sym k) (subst (λ (a : Matrices). Has c a s.node.k) (sym is) (built_served t c n system s built).1);
   said = said;
 }

@@ -13,7 +13,7 @@ use Rattle.mt_derive.specs.Trees.{Axiom, zero_rows, constant, identity, parity, 
 use Rattle.mt_derive.specs.declared.nodes.Made.{Made}
 use Rattle.mt_derive.specs.declared.nodes.Made.TheVariants as made
 use Rattle.mt_derive.specs.declared.nodes.Node.{Node}
-use Rattle.mt_derive.specs.Imports.{entries_of}
+use Rattle.mt_derive.specs.Events.{entries_of, imports_of}
 use Rattle.mt_derive.specs.Nodes.{made_of, IsTreeOf, IsRight, IsParent, Reaches, ReachesBy, AreReached}
 use Rattle.mt_derive.specs.Concluded.{IsConcluded, AllConclude}
 use Rattle.mt_derive.specs.Places.{IsAt}
@@ -195,15 +195,15 @@ module _ (nodes : List Node) (numbers : List ℕ) (list : List Node) (count : le
       (reached.parents (get_or numbers place 0) is.old parent.0 (Contains-get_or numbers place 0 l) is.place parent.2)
 
   -- the nodes of what the table names for a cell are a derivation of its greatest value
-  pub derivation_among : (t : Contents) (c : Cell) (n : ℕ) → nodes ≡ t.nodes.list → AllConclude t.bounds t.rules (entries_of t.list) t.nodes.list → IsServed t c n
-      → AreReached nodes n numbers → IsDerivation t.bounds t.rules t.list c list
+  pub derivation_among : (t : Contents) (c : Cell) (n : ℕ) → nodes ≡ t.nodes.list → AllConclude t.bounds t.rules (entries_of t.events) t.nodes.list → IsServed t c n
+      → AreReached nodes n numbers → IsDerivation t.bounds t.rules t.events c list
   derivation_among t c n shown concluded served reached =
       let at : IsAt nodes n served.node = rw shown served.place in
       let some = stands_some numbers n ((reached.each n).1 (reaches_self nodes n (place_below nodes n served.node at))) in
       let last : StandsAt numbers (length list - 1) n = (omega (arith, count, some.1.0), ap (λ z. get_or numbers (z - 1) 0) count ∙ reached.last) in
       let new = node_at (length list - 1) n served.node last at in
       record {
-        concluded = concluded_among t.bounds t.rules (entries_of t.list) (subst (λ (xs : List Node). AllConclude t.bounds t.rules (entries_of t.list) xs) (sym shown) concluded);
+        concluded = concluded_among t.bounds t.rules (entries_of t.events) (subst (λ (xs : List Node). AllConclude t.bounds t.rules (entries_of t.events) xs) (sym shown) concluded);
         parents = λ place p node. parents_among n reached place p node;
         used = λ place l.
             let here : place < length numbers = omega (arith, count) in
@@ -212,5 +212,5 @@ module _ (nodes : List Node) (numbers : List ℕ) (list : List Node) (count : le
         last = new.0;
         place = new.1;
         cell = new.3 ∙ served.cell;
-        value = subst (IsValue t.bounds t.rules (entries_of t.list) c) (sym new.4) served.value;
+        value = subst (IsValue t.bounds t.rules (entries_of t.events) c) (sym new.4) served.value;
       }

@@ -5,7 +5,6 @@ use Rattle.mt_linear.specs.declared.order.Order.{Order}
 use Rattle.mt_cells.specs.declared.cells.Cell.{Cell}
 use Rattle.mt_cells.specs.Cells.{InBounds, number, cells_of}
 use Rattle.mt_cells.proofs.CellLemmas.{number_apart, number_below}
-use Rattle.mt_derive.specs.Imports.{entries_of}
 use Rattle.mt_table.specs.Tables.{Contents}
 use Rattle.mt_answer.specs.Sheets.{line_text, IsTableRow, IsExportRow, IsExportText}
 
@@ -44,20 +43,20 @@ export_header = codes "kind,q,m,s,depth,k,since" ++ 10 ∷ []
 
 -- the fields for n + 1 coordinates
 abbrev pub IsRowOf : Contents → Order → ℕ → ℕ → List (List ℕ) → Type 0
-IsRowOf t o m n fields = IsTableRow t.bounds t.rules (entries_of t.list) o m (n + 1) fields
+IsRowOf t o m n fields = IsTableRow t.bounds t.rules t.events o m (n + 1) fields
 
 -- the fields of the cell of number n
 abbrev pub IsCellRow : Contents → ℕ → List (List ℕ) → Type 0
-IsCellRow t n fields = (c : Cell) × InBounds t.bounds c × (number t.bounds c ≡ n) × IsExportRow t.bounds t.rules (entries_of t.list) c fields
+IsCellRow t n fields = (c : Cell) × InBounds t.bounds c × (number t.bounds c ≡ n) × IsExportRow t.bounds t.rules t.events c fields
 
 -- the rows of all numbers are those of all cells
-pub all_cells : (t : Contents) (n : ℕ) (text : List ℕ) → n ≡ cells_of t.bounds → IsSheet export_header (IsCellRow t) n text → IsExportText t.bounds t.rules (entries_of t.list) text
+pub all_cells : (t : Contents) (n : ℕ) (text : List ℕ) → n ≡ cells_of t.bounds → IsSheet export_header (IsCellRow t) n text → IsExportText t.bounds t.rules t.events text
 all_cells t n text e sheet = record {
   rows = sheet.rows;
   count = sheet.count ∙ e;
   each = λ c inside.
       let row = sheet.each (number t.bounds c) (omega (arith, number_below t.bounds c inside, e)) in
-      subst (λ (x : Cell). IsExportRow t.bounds t.rules (entries_of t.list) x (get_or sheet.rows (number t.bounds c) []))
+      subst (λ (x : Cell). IsExportRow t.bounds t.rules t.events x (get_or sheet.rows (number t.bounds c) []))
       (number_apart t.bounds row.0 c row.1 inside row.2) row.3;
   text_is = sheet.text_is;
 }

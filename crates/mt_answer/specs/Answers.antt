@@ -1,6 +1,6 @@
 -- The text of an answer.
 use Rattle.std.specs.Prelude.{◌≡◌, ℕ, List}
-use Rattle.mt_system.specs.Statements.{Statement}
+use Rattle.mt_derive.specs.declared.events.Event.{Event}
 use Rattle.mt_cells.specs.declared.bounds.Bounds.{Bounds}
 use Rattle.mt_cells.specs.declared.rules.RuleSet.{RuleSet}
 use Rattle.mt_cells.specs.declared.asks.Question.{Question}
@@ -16,5 +16,5 @@ HasText Version = ⊥
 HasText question = Unit {0}
 
 -- the text of what answers the question over the imports
-abbrev pub IsTextFor : Bounds → RuleSet → List Statement → Question → List ℕ → Type 0
-IsTextFor b rules L question text = (facts : Facts) × IsFound b rules L question facts × (text ≡ text_of facts.fact facts.version)
+abbrev pub IsTextFor : Bounds → RuleSet → List Event → Question → List ℕ → Type 0
+IsTextFor b rules E question text = (facts : Facts) × IsFound b rules E question facts × (text ≡ text_of facts.fact facts.version)

@@ -10,8 +10,10 @@ use Rattle.mt_cells.specs.declared.cells.Cell.TheVariants.{Ooa, Seq}
 use Rattle.mt_cells.specs.declared.asks.Kind.TheVariants as kind
 use Rattle.mt_cells.specs.Cells.{InBounds, number, cells_of}
 use Rattle.mt_cells.specs.Texts.{kind_text}
-use Rattle.mt_derive.specs.Trees.{Entry, IsValue}
+use Rattle.mt_derive.specs.declared.events.Event.{Event}
+use Rattle.mt_derive.specs.Trees.{IsValue}
 use Rattle.mt_derive.specs.Values.{IsSince}
+use Rattle.mt_derive.specs.Events.{entries_of}
 
 -- the fields with commas between them, and a line feed
 abbrev pub line_text : List (List ℕ) → List ℕ
@@ -22,15 +24,15 @@ abbrev pub cell_fields : Cell → List (List ℕ)
 cell_fields (Ooa o m s depth) = kind_text kind.Ooa ∷ decimal (number_of o) ∷ decimal m ∷ decimal s ∷ decimal depth ∷ []
 cell_fields (Seq o m s) = kind_text kind.Seq ∷ decimal (number_of o) ∷ decimal m ∷ decimal s ∷ decimal m ∷ []
 
-module _ (b : Bounds) (rules : RuleSet) (L : List Entry) where
+module _ (b : Bounds) (rules : RuleSet) (E : List Event) where
   -- the fields for s coordinates: the greatest values of the net, the orthogonal array and the sequence, and their t = m - k
   pub record IsTableRow (o : Order) (m s : ℕ) (fields : List (List ℕ)) : Type 0 where
     pub net_k : ℕ
-    pub net : IsValue b rules L (Ooa o m s m) net_k
+    pub net : IsValue b rules (entries_of E) (Ooa o m s m) net_k
     pub oa_k : ℕ
-    pub oa : IsValue b rules L (Ooa o m s 1) oa_k
+    pub oa : IsValue b rules (entries_of E) (Ooa o m s 1) oa_k
     pub seq_k : ℕ
-    pub seq : IsValue b rules L (Seq o m s) seq_k
+    pub seq : IsValue b rules (entries_of E) (Seq o m s) seq_k
     pub fields_are : fields ≡ decimal s ∷ decimal net_k ∷ decimal (m - net_k) ∷ decimal oa_k ∷ decimal (m - seq_k) ∷ []
 
   -- a header, and a row for each s from 1 to the most coordinates
@@ -43,9 +45,9 @@ module _ (b : Bounds) (rules : RuleSet) (L : List Entry) where
   -- the fields of a cell: its sizes, its greatest value and the last import that changed it
   pub record IsExportRow (c : Cell) (fields : List (List ℕ)) : Type 0 where
     pub k : ℕ
-    pub value : IsValue b rules L c k
+    pub value : IsValue b rules (entries_of E) c k
     pub since : ℕ
-    pub is_since : IsSince b rules L c since
+    pub is_since : IsSince b rules E c since
     pub fields_are : fields ≡ cell_fields c ++ decimal k ∷ decimal since ∷ []
 
   -- a header, and a row for each cell, in the order of cells

@@ -32,7 +32,7 @@ use std::alloc::{AllocError, Global};
 ///   import that changed it, in the order of cells.
 pub fn find(alloc: Global, table: &Table, question: &Question) -> Result<Facts, AllocError>
     requires { IsInside table.now.bounds (sizes_of question.now) }
-    ensures { IfOk result (IsFound table.now.bounds table.now.rules table.now.list question.now) }
+    ensures { IfOk result (IsFound table.now.bounds table.now.rules table.now.events question.now) }
 {
     Ok(Facts {
         version: table.version(),
@@ -42,7 +42,7 @@ pub fn find(alloc: Global, table: &Table, question: &Question) -> Result<Facts, 
 
 fn fact_of(alloc: Global, table: &Table, question: &Question) -> Result<Fact, AllocError>
     requires { IsInside table.now.bounds (sizes_of question.now) }
-    ensures { IfOk result (IsFact table.now.bounds table.now.rules table.now.list question.now) }
+    ensures { IfOk result (IsFact table.now.bounds table.now.rules table.now.events question.now) }
 {
     let bounds = table.bounds();
     match question {
@@ -92,7 +92,7 @@ fn fact_of(alloc: Global, table: &Table, question: &Question) -> Result<Fact, Al
 pub fn text(alloc: Global, table: &Table, question: &Question) -> Result<Vec<u8>, AllocError>
     requires inside { IsInside table.now.bounds (sizes_of question.now) }
     requires has_text { HasText question.now }
-    ensures { IfOk result (λ text. IsTextFor table.now.bounds table.now.rules table.now.list
+    ensures { IfOk result (λ text. IsTextFor table.now.bounds table.now.rules table.now.events
         question.now text.items) }
 {
     let facts = find(alloc, table, question)?;

@@ -17,7 +17,7 @@ pub(crate) fn claim_of(
     cell: Cell,
 ) -> Result<Claim, AllocError>
     requires { IsAsked table.now.bounds ask.now cell }
-    ensures { IfOk result (IsClaimed table.now.bounds table.now.rules table.now.list ask.now.kind cell) }
+    ensures { IfOk result (IsClaimed table.now.bounds table.now.rules table.now.events ask.now.kind cell) }
 {
     let (nodes, n) = (table.nodes(), table.node_of(cell));
     let system = build(alloc, nodes, table.imports(), n)?;

@@ -13,7 +13,7 @@ use std::alloc::{AllocError, Global};
 /// The nodes of the derivation of the cell's value.
 pub(crate) fn derivation(alloc: Global, table: &Table, cell: Cell) -> Result<Vec<Node>, AllocError>
     requires { InBounds table.now.bounds cell }
-    ensures { IfOk result (λ nodes. IsDerivation table.now.bounds table.now.rules table.now.list cell
+    ensures { IfOk result (λ nodes. IsDerivation table.now.bounds table.now.rules table.now.events cell
         nodes.items) }
 {
     let nodes = table.nodes();

@@ -1,6 +1,5 @@
 //! The values of all cells, as comma-separated values.
 ghost use Rattle.std.specs.Prelude.{◌≡◌, [], ◌∷◌, ◌++◌, decimal, IfOk, OnOk};
-ghost use Rattle.mt_derive.specs.Imports.{entries_of};
 ghost use Rattle.mt_answer.specs.Sheets.{line_text, cell_fields, IsExportText};
 
 use crate::sheets::Sheet;
@@ -11,7 +10,7 @@ use std::alloc::{AllocError, Global};
 /// The values of all cells, a line for each, in the order of cells.
 pub(crate) fn export_lines(alloc: Global, table: &Table) -> Result<Vec<u8>, AllocError>
     ensures { IfOk result (λ text. IsExportText table.now.bounds table.now.rules
-        (entries_of table.now.list) text.items) }
+        table.now.events text.items) }
 {
     let mut sheet = Sheet::new(alloc);
     sheet.push(&[b"kind", b"q", b"m", b"s", b"depth", b"k", b"since"], &[])?;

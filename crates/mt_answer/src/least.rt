@@ -10,7 +10,7 @@ use mt_table::Table;
 /// or more; `None` where no m within the bounds has.
 pub fn least_m(table: &Table, order: Order, s: u8, k: u64) -> Option<u8>
     requires { IsFrom1 table.now.bounds.s_max s }
-    ensures { IsLeastM table.now.bounds table.now.rules table.now.list order s k result }
+    ensures { IsLeastM table.now.bounds table.now.rules table.now.events order s k result }
 {
     for before in 0..table.bounds().m_max {
         let m = before + 1;

@@ -1,7 +1,6 @@
 //! The values of one order and one number of columns, as comma-separated values.
 ghost use Rattle.std.specs.Prelude.{◌≡◌, ◌++◌, List, ℕ, IfOk, OnOk};
 ghost use Rattle.mt_cells.specs.Asks.{IsFrom1};
-ghost use Rattle.mt_derive.specs.Imports.{entries_of};
 ghost use Rattle.mt_answer.specs.Sheets.{line_text, IsTableRow, IsTableText};
 
 use crate::sheets::Sheet;
@@ -20,7 +19,7 @@ pub(crate) fn table_lines(
 ) -> Result<Vec<u8>, AllocError>
     requires { IsFrom1 table.now.bounds.m_max m }
     ensures { IfOk result (λ text. IsTableText table.now.bounds table.now.rules
-        (entries_of table.now.list) order m text.items) }
+        table.now.events order m text.items) }
 {
     let mut sheet = Sheet::new(alloc);
     sheet.push(&[b"s", b"net_k", b"net_t", b"oa_k", b"seq_t"], &[])?;
@@ -41,7 +40,7 @@ fn push_values(
     requires m { IsFrom1 table.now.bounds.m_max m }
     requires s { IsFrom1 table.now.bounds.s_max s }
     ensures { OnOk result ((fields : List (List ℕ)) × IsTableRow table.now.bounds table.now.rules
-        (entries_of table.now.list) order m s fields
+        table.now.events order m s fields
         × (sheet.new ≡ sheet.old ++ line_text fields)) }
 {
     let net_k = table.value(Cell::Ooa {

@@ -1,7 +1,6 @@
 use Rattle.std.proofs.Common.{◌≡◌, [], ◌∷◌, ◌++◌, decimal, refl, ap, arith}
 use Rattle.std.proofs.lemmas.Result.{IfOk-weaker}
 use Rattle.mt_cells.specs.Cells.{cells_of}
-use Rattle.mt_derive.specs.Imports.{entries_of}
 use Rattle.mt_answer.specs.Sheets.{cell_fields, IsExportText}
 use Rattle.mt_answer.proofs.SheetLemmas.{export_header, IsCellRow, header_alone, one_more, all_cells}
 use Rattle.mt_answer.proofs.exports.export_lines.Goals as goal
@@ -24,4 +23,4 @@ pub returns : goal.returns
 returns c =
     let t = c.args.table.now in
     let all : c.loop-number.number ≡ cells_of t.bounds = omega (arith, ap cells_of c.bounds-bounds.ensures) in
-    IfOk-weaker c.into_bytes.result _ (λ bytes. IsExportText t.bounds t.rules (entries_of t.list) bytes.items) (λ bytes e. all_cells t c.loop-number.number bytes.items all (rw e c.loop-number.invariant)) c.into_bytes.ensures
+    IfOk-weaker c.into_bytes.result _ (λ bytes. IsExportText t.bounds t.rules t.events bytes.items) (λ bytes e. all_cells t c.loop-number.number bytes.items all (rw e c.loop-number.invariant)) c.into_bytes.ensures

@@ -9,13 +9,13 @@ returns-then-k-value c =
     let most = ap (λ (b : Bounds). b.m_max) c.bounds-before-end.ensures in (
       (omega arith, omega (arith, c.loop-before-test.true, most)),
       (c.value.result, c.value.ensures, c.if-k-value.true),
-      least_here t.bounds t.rules t.list c.args.order c.args.s c.args.k c.loop-before.before c.loop-before.invariant,
+      least_here t.bounds t.rules t.events c.args.order c.args.s c.args.k c.loop-before.before c.loop-before.invariant,
     )
 
 pub loop-before-preserved : goal.loop-before-preserved
 loop-before-preserved c =
     let t = c.args.table.now in
-    none_yet t.bounds t.rules t.list c.args.order c.args.s c.args.k c.loop-before.before c.value.result c.loop-before.invariant c.value.ensures (λ l. omega (arith, l, c.if-k-value.false))
+    none_yet t.bounds t.rules t.events c.args.order c.args.s c.args.k c.loop-before.before c.value.result c.loop-before.invariant c.value.ensures (λ l. omega (arith, l, c.if-k-value.false))
 
 pub returns : goal.returns
 returns c m inside has =
