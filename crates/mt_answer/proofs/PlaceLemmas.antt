@@ -154,14 +154,14 @@ module _ (nodes : List Node) (numbers : List ℕ) (list : List Node) (count : le
   tree_among (imported i) place n s h =
       let new = node_at place n h.0 s h.1 in
       (new.0, new.1, subst (λ (m : Made). IsMadeAmong numbers m new.0.made) h.2 new.2)
-  tree_among (one r t) place n s h =
+  tree_among (one r c t) place n s h =
       let new = node_at place n h.0 s h.1 in
       let is : IsMadeAmong numbers (made.One r h.2) new.0.made = subst (λ (m : Made). IsMadeAmong numbers m new.0.made) h.3 new.2 in
-      (new.0, new.1, is.0, is.2, tree_among t is.0 h.2 is.1 h.4)
-  tree_among (two r t u) place n s h =
+      (new.0, new.1, is.0, is.2, new.3 ∙ h.4, tree_among t is.0 h.2 is.1 h.5)
+  tree_among (two r c t u) place n s h =
       let new = node_at place n h.0 s h.1 in
       let is : IsMadeAmong numbers (made.Two r h.2 h.3) new.0.made = subst (λ (m : Made). IsMadeAmong numbers m new.0.made) h.4 new.2 in
-      (new.0, new.1, is.0, is.1, is.4, tree_among t is.0 h.2 is.2 h.5, tree_among u is.1 h.3 is.3 h.6)
+      (new.0, new.1, is.0, is.1, is.4, new.3 ∙ h.5, tree_among t is.0 h.2 is.2 h.6, tree_among u is.1 h.3 is.3 h.7)
 
   -- a node reaches what it reached
   reach_among : IsAscending numbers → (steps n q a b : ℕ) → StandsAt numbers a n → StandsAt numbers b q → ReachesBy nodes steps n q → ReachesBy list steps a b

@@ -11,6 +11,8 @@ mod least;
 mod lines;
 mod sheets;
 mod tables;
+#[cfg(test)]
+mod tests;
 
 pub use answers::{find, text};
 pub use facts::{Fact, Facts};

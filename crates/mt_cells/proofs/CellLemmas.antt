@@ -10,7 +10,7 @@ use Rattle.mt_cells.specs.declared.bounds.Bounds.{Bounds}
 use Rattle.mt_cells.specs.declared.bounds.TheConstants.{MOST_COLUMNS, MOST_COORDINATES, MOST_ARRAYS, MOST_CELLS}
 use Rattle.mt_cells.specs.declared.cells.Cell.{Cell}
 use Rattle.mt_cells.specs.declared.cells.Cell.TheVariants.{Ooa, Seq}
-use Rattle.mt_cells.specs.Cells.{InBounds, order_of, Before, place_of, triangle, arrays_of, per_order_of, cells_of, number}
+use Rattle.mt_cells.specs.Cells.{InBounds, order_of, Before, index_of, triangle, arrays_of, per_order_of, cells_of, number}
 use Rattle.mt_cells.proofs.Triangles.{triangle-suc, triangle_half, triangle_le}
 
 -- a greater first digit outweighs the rest
@@ -28,30 +28,30 @@ lines_lt S m x n h k =
 
 -- ---- orders
 
-place_below : (o : Order) → place_of o < 7
-place_below Q2 = omega arith
-place_below Q3 = omega arith
-place_below Q4 = omega arith
-place_below Q5 = omega arith
-place_below Q7 = omega arith
-place_below Q8 = omega arith
-place_below Q9 = omega arith
+index_below : (o : Order) → index_of o < 7
+index_below Q2 = omega arith
+index_below Q3 = omega arith
+index_below Q4 = omega arith
+index_below Q5 = omega arith
+index_below Q7 = omega arith
+index_below Q8 = omega arith
+index_below Q9 = omega arith
 
 -- 6 is no order
-number_of-place : (o : Order) → number_of o ≡ place_of o + 2 + place_of o / 4
-number_of-place Q2 = refl
-number_of-place Q3 = refl
-number_of-place Q4 = refl
-number_of-place Q5 = refl
-number_of-place Q7 = refl
-number_of-place Q8 = refl
-number_of-place Q9 = refl
+number_of-index : (o : Order) → number_of o ≡ index_of o + 2 + index_of o / 4
+number_of-index Q2 = refl
+number_of-index Q3 = refl
+number_of-index Q4 = refl
+number_of-index Q5 = refl
+number_of-index Q7 = refl
+number_of-index Q8 = refl
+number_of-index Q9 = refl
 
-place_lt : (o p : Order) → number_of o < number_of p → place_of o < place_of p
-place_lt o p h = omega (arith, number_of-place o, number_of-place p)
+index_lt : (o p : Order) → number_of o < number_of p → index_of o < index_of p
+index_lt o p h = omega (arith, number_of-index o, number_of-index p)
 
-place_le : (o p : Order) → number_of o ≤ number_of p → place_of o ≤ place_of p
-place_le o p h = omega (arith, number_of-place o, number_of-place p)
+index_le : (o p : Order) → number_of o ≤ number_of p → index_of o ≤ index_of p
+index_le o p h = omega (arith, number_of-index o, number_of-index p)
 
 abbrev order_from : ℕ → Order
 order_from zero = Q2
@@ -62,7 +62,7 @@ order_from (suc (suc (suc (suc zero)))) = Q7
 order_from (suc (suc (suc (suc (suc zero))))) = Q8
 order_from (suc (suc (suc (suc (suc (suc n)))))) = Q9
 
-order_back : (o : Order) → order_from (place_of o) ≡ o
+order_back : (o : Order) → order_from (index_of o) ≡ o
 order_back Q2 = refl
 order_back Q3 = refl
 order_back Q4 = refl
@@ -73,16 +73,16 @@ order_back Q9 = refl
 
 pub order_same : (o p : Order) → number_of o ≡ number_of p → o ≡ p
 order_same o p e =
-    let same : place_of o ≡ place_of p = omega (arith, number_of-place o, number_of-place p) in
+    let same : index_of o ≡ index_of p = omega (arith, number_of-index o, number_of-index p) in
     sym (order_back o) ∙ ap order_from same ∙ order_back p
 
--- ---- the place of a cell among those of its order
+-- ---- the number of a cell among those of its order
 
 abbrev inner : Bounds → Cell → ℕ
 inner b (Ooa o m s d) = b.s_max * triangle m + ((s - 1) * m + (d - 1))
 inner b (Seq o m s) = arrays_of b + ((m - 1) * b.s_max + (s - 1))
 
-number_is : (b : Bounds) (c : Cell) → number b c ≡ place_of (order_of c) * per_order_of b + inner b c
+number_is : (b : Bounds) (c : Cell) → number b c ≡ index_of (order_of c) * per_order_of b + inner b c
 unfolding number
 number_is b (Ooa o m s d) = refl
 number_is b (Seq o m s) = refl
@@ -100,7 +100,7 @@ inner_below b (Seq o m s) h =
     omega arith
 
 pub number_below : (b : Bounds) (c : Cell) → InBounds b c → number b c < cells_of b
-number_below b c h = rw (number_is b c) (radix_lt (per_order_of b) (place_of (order_of c)) (inner b c) 7 (inner_below b c h) (place_below (order_of c)))
+number_below b c h = rw (number_is b c) (radix_lt (per_order_of b) (index_of (order_of c)) (inner b c) 7 (inner_below b c h) (index_below (order_of c)))
 
 pub cells_high : (b : Bounds) → cells_of b ≤ MOST_CELLS
 cells_high b =
@@ -142,16 +142,16 @@ sequences_ordered S m s n t m_low s_low s_high t_low (inr (same, l)) =
 abbrev LaterPlace : ℕ → ℕ → ℕ → ℕ → Type 0
 LaterPlace o p x y = (o < p) ⊎ ((o ≡ p) × (x < y))
 
-later : (b : Bounds) (c d : Cell) → InBounds b c → InBounds b d → Before c d → LaterPlace (place_of (order_of c)) (place_of (order_of d)) (inner b c) (inner b d)
-later b (Ooa o m s d) (Ooa p n t e) h k (inl l) = inl (place_lt o p l)
-later b (Ooa o m s d) (Ooa p n t e) h k (inr (same, rest)) = inr (ap place_of same, arrays_ordered b.s_max m s d n t e h.2 h.3 h.4 h.5 k.2 k.4 rest)
-later b (Ooa o m s d) (Seq p n t) h k l = elim (cases_lt (place_of o) (place_of p)) [
+later : (b : Bounds) (c d : Cell) → InBounds b c → InBounds b d → Before c d → LaterPlace (index_of (order_of c)) (index_of (order_of d)) (inner b c) (inner b d)
+later b (Ooa o m s d) (Ooa p n t e) h k (inl l) = inl (index_lt o p l)
+later b (Ooa o m s d) (Ooa p n t e) h k (inr (same, rest)) = inr (ap index_of same, arrays_ordered b.s_max m s d n t e h.2 h.3 h.4 h.5 k.2 k.4 rest)
+later b (Ooa o m s d) (Seq p n t) h k l = elim (cases_lt (index_of o) (index_of p)) [
   | inl less ↦ inl less
-  | inr most ↦ inr (let le = place_le o p l in omega arith, let x = array_lt b.s_max m s d (b.m_max + 1) h.2 h.3 h.4 h.5 (omega arith) in omega arith)
+  | inr most ↦ inr (let le = index_le o p l in omega arith, let x = array_lt b.s_max m s d (b.m_max + 1) h.2 h.3 h.4 h.5 (omega arith) in omega arith)
 ]
-later b (Seq o m s) (Ooa p n t e) h k l = inl (place_lt o p l)
-later b (Seq o m s) (Seq p n t) h k (inl l) = inl (place_lt o p l)
-later b (Seq o m s) (Seq p n t) h k (inr (same, rest)) = inr (ap place_of same, let l = sequences_ordered b.s_max m s n t h.0 h.2 h.3 k.2 rest in omega arith)
+later b (Seq o m s) (Ooa p n t e) h k l = inl (index_lt o p l)
+later b (Seq o m s) (Seq p n t) h k (inl l) = inl (index_lt o p l)
+later b (Seq o m s) (Seq p n t) h k (inr (same, rest)) = inr (ap index_of same, let l = sequences_ordered b.s_max m s n t h.0 h.2 h.3 k.2 rest in omega arith)
 
 later_lt : (n o p x y : ℕ) → x < n → LaterPlace o p x y → o * n + x < p * n + y
 later_lt n o p x y h (inl l) = let far : o * n + x < p * n = radix_lt n o x p h l in omega arith
@@ -159,8 +159,8 @@ later_lt n o p x y h (inr (same, l)) = let moved : o * n ≡ p * n = ap (λ k. k
 
 pub number_ordered : (b : Bounds) (c d : Cell) → InBounds b c → InBounds b d → Before c d → number b c < number b d
 number_ordered b c d h k l =
-    let less : place_of (order_of c) * per_order_of b + inner b c < place_of (order_of d) * per_order_of b + inner b d =
-    later_lt (per_order_of b) (place_of (order_of c)) (place_of (order_of d)) (inner b c) (inner b d) (inner_below b c h) (later b c d h k l) in
+    let less : index_of (order_of c) * per_order_of b + inner b c < index_of (order_of d) * per_order_of b + inner b d =
+    later_lt (per_order_of b) (index_of (order_of c)) (index_of (order_of d)) (inner b c) (inner b d) (inner_below b c h) (later b c d h k l) in
     rw (number_is b c, number_is b d) less
 
 -- ---- of two cells one is before the other, or they are the same

@@ -4,7 +4,7 @@ use Rattle.std.proofs.lemmas.Bool.{cases_lt}
 use Rattle.mt_linear.specs.declared.order.Order.{Order}
 use Rattle.mt_cells.specs.declared.bounds.Bounds.{Bounds}
 use Rattle.mt_cells.specs.declared.cells.Cell.TheVariants.{Ooa, Seq}
-use Rattle.mt_cells.specs.Cells.{place_of, triangle, arrays_of, per_order_of, number}
+use Rattle.mt_cells.specs.Cells.{index_of, triangle, arrays_of, per_order_of, number}
 use Rattle.mt_cells.proofs.Triangles.{triangle-suc}
 
 -- the search for m among the arrays of one order
@@ -28,11 +28,11 @@ split n d h =
     omega arith
 
 pub array_found : (b : Bounds) (o : Order) (m rest before : ℕ) → 1 ≤ m → rest + b.s_max * triangle m ≡ before
-    → number b (Ooa o m (rest / m + 1) (rest % m + 1)) ≡ place_of o * per_order_of b + before
+    → number b (Ooa o m (rest / m + 1) (rest % m + 1)) ≡ index_of o * per_order_of b + before
 unfolding number
 array_found b o m rest before h e = let parts = split rest m h in omega arith
 
 pub sequence_found : (b : Bounds) (o : Order) (before : ℕ)
-    → number b (Seq o (before / b.s_max + 1) (before % b.s_max + 1)) ≡ place_of o * per_order_of b + (arrays_of b + before)
+    → number b (Seq o (before / b.s_max + 1) (before % b.s_max + 1)) ≡ index_of o * per_order_of b + (arrays_of b + before)
 unfolding number
 sequence_found b o before = let parts = split before b.s_max b.s_low in omega arith

@@ -1,7 +1,9 @@
 pub mod Triangles
 pub mod CellLemmas
 pub mod CellSearch
-pub mod PlaceLemmas
+pub mod RuleLemmas
+pub mod SpotLemmas
+pub mod CountLemmas
 pub mod PickedLemmas
 pub mod ListedLemmas
 pub mod NumberLemmas

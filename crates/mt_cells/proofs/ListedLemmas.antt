@@ -1,13 +1,12 @@
--- The instances from a place on, as a list.
-use Rattle.std.proofs.Common.{eqb, ◌&&◌, leb, ℕ, suc, ◌≡◌, ◌+◌, ◌-◌, ◌/◌, ◌%◌, ◌≤◌, ◌<◌, ◌≢◌, ap, refl, arith, sym, ◌∙◌, ⊎_elim, ◌⊎◌, inl, inr, subst, Bool, true, false, [], ◌∷◌, length}
+-- The instances from a spot on, as a list.
+use Rattle.std.proofs.Common.{eqb, ◌&&◌, leb, ℕ, suc, ◌≡◌, ◌+◌, ◌-◌, ◌/◌, ◌%◌, ◌≤◌, ◌<◌, ◌≢◌, ap, refl, arith, sym, ◌∙◌, ⊎_elim, ◌⊎◌, inl, inr, Bool, true, false, [], ◌∷◌, length}
 use Rattle.std.specs.Bool.{Decides}
-use Rattle.std.proofs.lemmas.Bool.{cases_lt, cases_Bool, leb-true, le-leb}
-use Rattle.std.proofs.lemmas.Bool.Decides.{Decides-and, Decides-not, Decides-eqb, Decides-ltb, Decides-like}
+use Rattle.std.proofs.lemmas.Bool.{cases_lt, cases_Bool, leb-true, le-leb, eqb-true, eq-eqb, and_parts, and_from}
+use Rattle.std.proofs.lemmas.Bool.Decides.{Decides-and, Decides-not, Decides-eqb, Decides-like}
 use Rattle.mt_cells.specs.declared.bounds.Bounds.{Bounds}
 use Rattle.mt_cells.specs.declared.cells.Cell.{Cell}
 use Rattle.mt_cells.specs.declared.cells.Cell.TheVariants.{Ooa, Seq}
 use Rattle.mt_cells.specs.declared.rules.Rule.{Rule}
-use Rattle.mt_cells.specs.declared.rules.Rule.TheVariants.{Fewer, Shallower, Deeper, Longer, QuotientKeep, QuotientDrop, SeqFewer, SeqCut, SeqToNet, Product, Uuv}
 use Rattle.mt_cells.specs.declared.rules.RuleSet.{RuleSet}
 use Rattle.mt_cells.specs.declared.instances.Instance.{Instance}
 use Rattle.mt_cells.specs.declared.lines.Stage.{Stage}
@@ -15,14 +14,13 @@ use Rattle.mt_cells.specs.declared.lines.Stage.TheVariants as stage
 use Rattle.mt_cells.specs.declared.lines.Line.{Line}
 use Rattle.mt_cells.specs.declared.lines.Lines.{Lines}
 use Rattle.mt_linear.specs.declared.order.Order.{Order}
-use Rattle.mt_linear.specs.Field.{number_of}
 use Rattle.mt_cells.specs.Cells.{InBounds, order_of}
-use Rattle.mt_cells.specs.Rules.{HasTarget, HasPairTarget}
+use Rattle.mt_cells.specs.Rules.{has_target, has_pair_target}
 use Rattle.mt_cells.specs.Instances.{has_rule, IsInstance, HasParent, fan_of, IsListing}
-use Rattle.mt_cells.specs.Places.{rank, stage_of, key, place_number, end_number, IsPosition, IsSinglePlace, IsPair, other, IsPlace, instance_at, width, left_in, left, IsRightLine}
-use Rattle.mt_cells.specs.Listed.{picked, has_target, is_single_place, fits, has_pair_target, is_other, is_array, is_pair, is_place, is_numbered, instance_numbered, instances_from, instances_left, IsCursor}
-use Rattle.mt_cells.proofs.CellLemmas.{order_same}
-use Rattle.mt_cells.proofs.PlaceLemmas.{others_same, rule_rank_low, rank_high, position_small, stage_back, stage_forth, key_apart, Stands, stands, holds, parent, placed, same_place, left_falls, left_high, width_fits}
+use Rattle.mt_cells.specs.Spots.{rank, stage_of, key, spot_number, end_number, IsPosition, IsSingleSpot, IsPair, other, IsSpot, instance_at, width, IsRightLine}
+use Rattle.mt_cells.specs.Listed.{picked, is_single_spot, is_other, is_array, is_pair, is_spot, is_numbered, instance_numbered, instances_from, instances_left, IsCursor}
+use Rattle.mt_cells.proofs.SpotLemmas.{others_same, rank_high, position_small, stage_back, key_apart, Stands, stands, holds, parent, placed, same_spot}
+use Rattle.mt_cells.proofs.CountLemmas.{left_in, left, used_low, left_falls, left_high, width_fits}
 use Rattle.mt_cells.proofs.PickedLemmas.{picked_here, picked_skip, picked_none, picked_all, picked_each, picked_once, picked_few}
 
 -- ---- the tests
@@ -35,42 +33,13 @@ le_decides a b = (leb-true a b, le-leb a b)
 never_decides : Decides false ⊥
 never_decides = (λ h. cc, λ h. absurd h)
 
--- the test of a rule's target decides whether it has one
-has_target_decides : (b : Bounds) (rule : Rule) (c : Cell) → Decides (has_target b rule c) (HasTarget b rule c)
-has_target_decides b Fewer (Ooa o m s depth) = le_decides 2 s
-has_target_decides b Shallower (Ooa o m s depth) = le_decides 2 depth
-has_target_decides b Deeper (Ooa o m s depth) = Decides-ltb depth m
-has_target_decides b Longer (Ooa o m s depth) = Decides-ltb m b.m_max
-has_target_decides b QuotientKeep (Ooa o m s depth) = Decides-and _ _ (le_decides 2 m) (le_decides 2 depth)
-has_target_decides b QuotientDrop (Ooa o m s depth) = Decides-like _ (λ h. (h.0, h.1.0, h.1.1)) (λ h. (h.0, (h.1, h.2))) (Decides-and _ _ (le_decides 2 m) (Decides-and _ _ (le_decides 2 s) (Decides-ltb depth m)))
-has_target_decides b SeqFewer (Seq o m s) = le_decides 2 s
-has_target_decides b SeqCut (Seq o m s) = le_decides 2 m
-has_target_decides b SeqToNet (Seq o m s) = Decides-ltb s b.s_max
-has_target_decides b r c = never_decides
-
-order_decides : (o p : Order) → Decides (eqb (number_of o) (number_of p)) (o ≡ p)
-order_decides o p = Decides-like _ (order_same o p) (ap number_of) (Decides-eqb (number_of o) (number_of p))
-
--- the test of a rule's parents decides whether it has a target for them
-fits_decides : (b : Bounds) (p q : Cell) → Decides (fits b p q) (HasPairTarget b Product p q)
-fits_decides b (Ooa o m s depth) (Ooa p n t deeper) =
-    Decides-like _ (λ h. (h.0, h.1.0, h.1.1.0, h.1.1.1)) (λ h. (h.0, (h.1, (h.2, h.3))))
-    (Decides-and _ _ (order_decides o p) (Decides-and _ _ (le_decides depth deeper) (Decides-and _ _ (le_decides (m + n) b.m_max) (le_decides (s + t) b.s_max))))
-fits_decides b p q = never_decides
-
-pair_target_decides : (b : Bounds) (rule : Rule) (p q : Cell) → Decides (has_pair_target b rule p q) (HasPairTarget b rule p q)
-pair_target_decides b Product p q = fits_decides b p q
-pair_target_decides b Uuv (Ooa o m s depth) (Ooa p n t deeper) =
-    Decides-like _ (λ h. (h.0.0, h.0.1, h.0.2, h.0.3, h.1)) (λ h. ((h.0, h.1, h.2, h.3), h.4)) (Decides-and _ _ (fits_decides b (Ooa o m s depth) (Ooa p n t deeper)) (le_decides s t))
-pair_target_decides b r p q = never_decides
-
 same_decides : (x : Bool) → Decides x (x ≡ true)
 same_decides x = (λ h. h, λ h. h)
 
-single_decides : (b : Bounds) (rules : RuleSet) (rule : Rule) (c : Cell) (m d s : ℕ) → Decides (is_single_place b rules rule c m d s) (IsSinglePlace b rules rule c m d s)
+single_decides : (b : Bounds) (rules : RuleSet) (rule : Rule) (c : Cell) (m d s : ℕ) → Decides (is_single_spot b rules rule c m d s) (IsSingleSpot b rules rule c m d s)
 single_decides b rules rule c m d s =
     Decides-like _ (λ h. (h.0, h.1.0, h.1.1.0, h.1.1.1.0, h.1.1.1.1)) (λ h. (h.0, (h.1, (h.2, (h.3, h.4)))))
-    (Decides-and _ _ (same_decides (has_rule rules rule)) (Decides-and _ _ (has_target_decides b rule c) (Decides-and _ _ (Decides-eqb m 1) (Decides-and _ _ (Decides-eqb d 1) (Decides-eqb s 1)))))
+    (Decides-and _ _ (same_decides (has_rule rules rule)) (Decides-and _ _ (same_decides (has_target b rule c)) (Decides-and _ _ (Decides-eqb m 1) (Decides-and _ _ (Decides-eqb d 1) (Decides-eqb s 1)))))
 
 array_decides : (b : Bounds) (o : Order) (m d s : ℕ) → Decides (is_array b m d s) (InBounds b (Ooa o m s d))
 array_decides b o m d s =
@@ -78,7 +47,7 @@ array_decides b o m d s =
     (Decides-and _ _ (le_decides 1 m) (Decides-and _ _ (le_decides m b.m_max) (Decides-and _ _ (le_decides 1 s) (Decides-and _ _ (le_decides s b.s_max) (Decides-and _ _ (le_decides 1 d) (le_decides d m))))))
 
 pair_decides : (b : Bounds) (rules : RuleSet) (rule : Rule) (p q : Cell) → Decides (is_pair b rules rule p q) (IsPair b rules rule p q)
-pair_decides b rules rule p q = Decides-and _ _ (same_decides (has_rule rules rule)) (pair_target_decides b rule p q)
+pair_decides b rules rule p q = Decides-and _ _ (same_decides (has_rule rules rule)) (same_decides (has_pair_target b rule p q))
 
 other_decides : (c : Cell) (m d s : ℕ) → Decides (is_other c m d s) (other c m d s ≢ c)
 other_decides (Ooa o n t e) m d s =
@@ -90,55 +59,48 @@ second_decides : (b : Bounds) (rules : RuleSet) (rule : Rule) (c : Cell) (m d s 
 second_decides b rules rule c m d s =
     Decides-like _ (λ h. (h.0, h.1.0, h.1.1)) (λ h. (h.0, (h.1, h.2))) (Decides-and _ _ (array_decides b (order_of c) m d s) (Decides-and _ _ (pair_decides b rules rule (other c m d s) c) (other_decides c m d s)))
 
--- the test of a place decides whether it holds an instance
-place_decides : (b : Bounds) (rules : RuleSet) (c : Cell) (g : Stage) (m d s : ℕ) → Decides (is_place b rules c g m d s) (IsPlace b rules c g m d s)
-place_decides b rules c (stage.Single r) m d s = single_decides b rules r c m d s
-place_decides b rules c stage.ProductFirst m d s = Decides-and _ _ (array_decides b (order_of c) m d s) (pair_decides b rules Product c (other c m d s))
-place_decides b rules c stage.ProductSecond m d s = second_decides b rules Product c m d s
-place_decides b rules c stage.UuvFirst m d s = Decides-and _ _ (array_decides b (order_of c) m d s) (pair_decides b rules Uuv c (other c m d s))
-place_decides b rules c stage.UuvSecond m d s = second_decides b rules Uuv c m d s
-place_decides b rules c stage.End m d s = never_decides
+-- the test of a spot decides whether it holds an instance
+spot_decides : (b : Bounds) (rules : RuleSet) (c : Cell) (g : Stage) (m d s : ℕ) → Decides (is_spot b rules c g m d s) (IsSpot b rules c g m d s)
+spot_decides b rules c (stage.Single r) m d s = single_decides b rules r c m d s
+spot_decides b rules c (stage.First r) m d s = Decides-and _ _ (array_decides b (order_of c) m d s) (pair_decides b rules r c (other c m d s))
+spot_decides b rules c (stage.Second r) m d s = second_decides b rules r c m d s
+spot_decides b rules c stage.End m d s = never_decides
 
--- ---- places and their numbers
+-- ---- spots and their numbers
 
--- n is the number of the place
+-- n is the number of the spot
 pub record Parts (n : ℕ) (g : Stage) (m d s : ℕ) : Type 0 where
   pub stage_is : stage_of (n / 65536) ≡ g
   pub m_is : n / 2048 % 32 ≡ m
   pub d_is : n / 64 % 32 ≡ d
   pub s_is : n % 64 ≡ s
-  pub number_is : n ≡ place_number g m d s
+  pub number_is : n ≡ spot_number g m d s
 
--- a number that passes the test is that of a place
+-- a number that passes the test is that of a spot
 pub record Numbered (b : Bounds) (rules : RuleSet) (c : Cell) (n : ℕ) : Type 0 where
   pub g : Stage
   pub m : ℕ
   pub d : ℕ
   pub s : ℕ
   pub parts : Parts n g m d s
-  pub place : IsPlace b rules c g m d s
+  pub spot : IsSpot b rules c g m d s
   pub is : instance_numbered c n ≡ instance_at c g m d s
 
 pub numbered : (b : Bounds) (rules : RuleSet) (c : Cell) (n : ℕ) → is_numbered b rules c n ≡ true → Numbered b rules c n
 numbered b rules c n h =
-    let p : IsPlace b rules c (stage_of (n / 65536)) (n / 2048 % 32) (n / 64 % 32) (n % 64) = (place_decides b rules c (stage_of (n / 65536)) (n / 2048 % 32) (n / 64 % 32) (n % 64)).0 h in
+    let both = and_parts (eqb (rank (stage_of (n / 65536))) (n / 65536)) (is_spot b rules c (stage_of (n / 65536)) (n / 2048 % 32) (n / 64 % 32) (n % 64)) h in
+    let ranked : rank (stage_of (n / 65536)) ≡ n / 65536 = eqb-true _ _ both.0 in
     record {
       g = stage_of (n / 65536);
       m = n / 2048 % 32;
       d = n / 64 % 32;
       s = n % 64;
-      parts = record {
-        stage_is = refl;
-        m_is = refl;
-        d_is = refl;
-        s_is = refl;
-        number_is = ⊎_elim (λ (e : rank (stage_of (n / 65536)) ≡ n / 65536). omega arith) (λ (e : stage_of (n / 65536) ≡ stage.End). absurd (subst (λ (g : Stage). IsPlace b rules c g (n / 2048 % 32) (n / 64 % 32) (n % 64)) e p)) (stage_forth (n / 65536));
-      };
-      place = p;
+      parts = record { stage_is = refl; m_is = refl; d_is = refl; s_is = refl; number_is = omega arith };
+      spot = (spot_decides b rules c (stage_of (n / 65536)) (n / 2048 % 32) (n / 64 % 32) (n % 64)).0 both.1;
       is = refl;
     }
 
-parts_of : (n : ℕ) (g : Stage) (m d s : ℕ) → m < 32 → d < 32 → s < 64 → n ≡ place_number g m d s → Parts n g m d s
+parts_of : (n : ℕ) (g : Stage) (m d s : ℕ) → m < 32 → d < 32 → s < 64 → n ≡ spot_number g m d s → Parts n g m d s
 parts_of n g m d s a b e h =
     let r : n / 65536 ≡ rank g = omega arith in
     record { stage_is = ap stage_of r ∙ stage_back g; m_is = omega arith; d_is = omega arith; s_is = omega arith; number_is = h }
@@ -149,26 +111,25 @@ width_small b (stage.Single r) = omega arith
 width_small b stage.End = omega arith
 width_small b g = let high = b.s_high in omega arith
 
--- the number of a place passes the test, and gives its instance
-pub numbered_back : (b : Bounds) (rules : RuleSet) (c : Cell) (g : Stage) (m d s n : ℕ) → InBounds b c → IsPlace b rules c g m d s → n ≡ place_number g m d s → (is_numbered b rules c n ≡ true) × (instance_numbered c n ≡ instance_at c g m d s)
+-- the number of a spot passes the test, and gives its instance
+pub numbered_back : (b : Bounds) (rules : RuleSet) (c : Cell) (g : Stage) (m d s n : ℕ) → InBounds b c → IsSpot b rules c g m d s → n ≡ spot_number g m d s → (is_numbered b rules c n ≡ true) × (instance_numbered c n ≡ instance_at c g m d s)
 numbered_back b rules c g m d s n h p e =
     let st = stands b rules c g m d s h p in
     let w : width b g < 63 = width_small b g in
-    let q = parts_of n g m d s st.m_small st.depth_small (let k : s ≤ width b g = st.high in omega arith) e in
-    (rw (q.stage_is, q.m_is, q.d_is, q.s_is) ((place_decides b rules c g m d s).1 p), rw (q.stage_is, q.m_is, q.d_is, q.s_is) refl)
+    let small : m < 32 = st.m_small in
+    let small' : d < 32 = st.depth_small in
+    let low : s < 64 = let k : s ≤ width b g = st.high in omega arith in
+    let q = parts_of n g m d s small small' low e in
+    let whole : n / 65536 ≡ rank g = omega arith in
+    let ranked : eqb (rank (stage_of (n / 65536))) (n / 65536) ≡ true = eq-eqb _ _ (ap rank q.stage_is ∙ sym whole) in
+    (and_from _ _ ranked (rw (q.stage_is, q.m_is, q.d_is, q.s_is) ((spot_decides b rules c g m d s).1 p)), rw (q.stage_is, q.m_is, q.d_is, q.s_is) refl)
 
--- the stage of a place comes before the end
-rank_low : (b : Bounds) (rules : RuleSet) (c : Cell) (g : Stage) (m d s : ℕ) → IsPlace b rules c g m d s → rank g < rank stage.End
-rank_low b rules c (stage.Single r) m d s p = omega (arith, rule_rank_low r)
-rank_low b rules c stage.End m d s p = absurd p
-rank_low b rules c g m d s p = omega arith
-
--- a place has a number below the end
-pub number_low : (b : Bounds) (rules : RuleSet) (c : Cell) (g : Stage) (m d s : ℕ) → InBounds b c → IsPlace b rules c g m d s → place_number g m d s < end_number
+-- a spot has a number below the end
+pub number_low : (b : Bounds) (rules : RuleSet) (c : Cell) (g : Stage) (m d s : ℕ) → InBounds b c → IsSpot b rules c g m d s → spot_number g m d s < end_number
 number_low b rules c g m d s h p =
     let st = stands b rules c g m d s h p in
     let w : width b g < 63 = width_small b g in
-    let r : rank g < rank stage.End = rank_low b rules c g m d s p in
+    let r : rank g < rank stage.End = used_low g st.used in
     let a : m < 32 = st.m_small in
     let a' : d < 32 = st.depth_small in
     let k : s ≤ width b g = st.high in
@@ -176,7 +137,7 @@ number_low b rules c g m d s h p =
 
 -- ---- the list
 
--- how many places do not stand before the one of this number
+-- how many spots do not stand before the one of this number
 fall : Bounds → ℕ → ℕ
 fall b n = left b (stage_of (n / 65536)) (n / 2048 % 32) (n / 64 % 32) + 1 - n % 64
 
@@ -184,8 +145,8 @@ fall_is : (b : Bounds) (n : ℕ) (g : Stage) (m d s : ℕ) → Parts n g m d s �
 unfolding fall
 fall_is b n g m d s p = rw (p.stage_is, p.m_is, p.d_is, p.s_is) refl
 
--- in the order of numbers fewer and fewer places are left
-fall_later : (b : Bounds) (g h : Stage) (m d s n e t : ℕ) → Stands b g m d s → Stands b h n e t → place_number g m d s < place_number h n e t → left b h n e + 1 - t < left b g m d + 1 - s
+-- in the order of numbers fewer and fewer spots are left
+fall_later : (b : Bounds) (g h : Stage) (m d s n e t : ℕ) → Stands b g m d s → Stands b h n e t → spot_number g m d s < spot_number h n e t → left b h n e + 1 - t < left b g m d + 1 - s
 fall_later b g h m d s n e t p q l =
     let w : width b g ≤ left_in b g m d = width_fits b g m d p.position in
     let w' : width b h ≤ left_in b h n e = width_fits b h n e q.position in
@@ -195,7 +156,7 @@ fall_later b g h m d s n e t p q l =
     let a' : t ≤ width b h = q.high in
     let f : 1 ≤ t = q.low in
     ⊎_elim
-    (λ (x : key g m d < key h n e). let r : left b h n e + width b g ≤ left b g m d = left_falls b g h m d n e p.position q.position x in omega arith)
+    (λ (x : key g m d < key h n e). let r : left b h n e + width b g ≤ left b g m d = left_falls b g h m d n e q.used p.position q.position x in omega arith)
     (λ (x : key h n e ≤ key g m d).
     let same = key_apart g h m d n e p.m_small p.depth_small q.m_small q.depth_small (omega arith) in
     let r : left b g m d ≡ left b h n e = rw (same.0, same.1, same.2) refl in
@@ -205,32 +166,32 @@ fall_later b g h m d s n e t p q l =
 listed_few : (b : Bounds) (rules : RuleSet) (c : Cell) (n start : ℕ) → InBounds b c → length (picked (is_numbered b rules c) (instance_numbered c) n start) ≤ fan_of b
 listed_few b rules c n start inb = picked_few (is_numbered b rules c) (instance_numbered c) (fall b) n start (fan_of b)
     (λ i j l t u. let p = numbered b rules c i t in let q = numbered b rules c j u in
-    rw (fall_is b i p.g p.m p.d p.s p.parts, fall_is b j q.g q.m q.d q.s q.parts) (fall_later b p.g q.g p.m p.d p.s q.m q.d q.s (stands b rules c p.g p.m p.d p.s inb p.place) (stands b rules c q.g q.m q.d q.s inb q.place) (let e = p.parts.number_is in let e' = q.parts.number_is in omega arith)))
+    rw (fall_is b i p.g p.m p.d p.s p.parts, fall_is b j q.g q.m q.d q.s q.parts) (fall_later b p.g q.g p.m p.d p.s q.m q.d q.s (stands b rules c p.g p.m p.d p.s inb p.spot) (stands b rules c q.g q.m q.d q.s inb q.spot) (let e = p.parts.number_is in let e' = q.parts.number_is in omega arith)))
     (λ j l t. let p = numbered b rules c j t in
-    let st = stands b rules c p.g p.m p.d p.s inb p.place in
+    let st = stands b rules c p.g p.m p.d p.s inb p.spot in
     let w : width b p.g ≤ left_in b p.g p.m p.d = width_fits b p.g p.m p.d st.position in
-    let top : left b p.g p.m p.d ≤ fan_of b = left_high b p.g p.m p.d st.position in
+    let top : left b p.g p.m p.d ≤ fan_of b = left_high b p.g p.m p.d st.used in
     let high : p.s ≤ width b p.g = st.high in
     let low : 1 ≤ p.s = st.low in
     rw (fall_is b j p.g p.m p.d p.s p.parts) (omega arith, omega arith))
 
--- from a number on that no place stands before it is the list of all instances with this parent
+-- from a number on that no spot stands before it is the list of all instances with this parent
 pub is_listing : (b : Bounds) (rules : RuleSet) (c : Cell) (start : ℕ) → InBounds b c
-    → ((h : Stage) (n e t : ℕ) → IsPlace b rules c h n e t → start ≤ place_number h n e t)
+    → ((h : Stage) (n e t : ℕ) → IsSpot b rules c h n e t → start ≤ spot_number h n e t)
     → IsListing b rules c (instances_from b rules c start)
 unfolding instances_from
 is_listing b rules c start inb first = record {
-  only = picked_all (is_numbered b rules c) (instance_numbered c) (λ i. IsInstance b rules i × HasParent c i) _ _ (λ j l t. let q = numbered b rules c j t in rw q.is (holds b rules c q.g q.m q.d q.s inb q.place, parent b rules c q.g q.m q.d q.s q.place));
+  only = picked_all (is_numbered b rules c) (instance_numbered c) (λ i. IsInstance b rules i × HasParent c i) _ _ (λ j l t. let q = numbered b rules c j t in rw q.is (holds b rules c q.g q.m q.d q.s inb q.spot, parent b rules c q.g q.m q.d q.s q.spot));
   each = λ i k p. let q = placed b rules c i inb k p in
-      let t = numbered_back b rules c q.g q.m q.d q.s (place_number q.g q.m q.d q.s) inb q.place refl in
-      let low : place_number q.g q.m q.d q.s < end_number = number_low b rules c q.g q.m q.d q.s inb q.place in
-      let here : start ≤ place_number q.g q.m q.d q.s = first q.g q.m q.d q.s q.place in
-      rw (t.1 ∙ q.is) at (picked_each (is_numbered b rules c) (instance_numbered c) (end_number - start) start (place_number q.g q.m q.d q.s) here (omega arith) t.0);
+      let t = numbered_back b rules c q.g q.m q.d q.s (spot_number q.g q.m q.d q.s) inb q.spot refl in
+      let low : spot_number q.g q.m q.d q.s < end_number = number_low b rules c q.g q.m q.d q.s inb q.spot in
+      let here : start ≤ spot_number q.g q.m q.d q.s = first q.g q.m q.d q.s q.spot in
+      rw (t.1 ∙ q.is) at (picked_each (is_numbered b rules c) (instance_numbered c) (end_number - start) start (spot_number q.g q.m q.d q.s) here (omega arith) t.0);
   once = picked_once (is_numbered b rules c) (instance_numbered c) _ _ (λ i j l t u e. let p = numbered b rules c i t in let q = numbered b rules c j u in
-      let same = same_place b rules c p.g q.g p.m p.d p.s q.m q.d q.s p.place q.place (sym p.is ∙ e ∙ q.is) in
+      let same = same_spot b rules c p.g q.g p.m p.d p.s q.m q.d q.s p.spot q.spot (sym p.is ∙ e ∙ q.is) in
       let r : rank p.g ≡ rank q.g = ap rank same.0 in
-      let n : i ≡ place_number p.g p.m p.d p.s = p.parts.number_is in
-      let n' : j ≡ place_number q.g q.m q.d q.s = q.parts.number_is in
+      let n : i ≡ spot_number p.g p.m p.d p.s = p.parts.number_is in
+      let n' : j ≡ spot_number q.g q.m q.d q.s = q.parts.number_is in
       let a : p.m ≡ q.m = same.1 in
       let a' : p.d ≡ q.d = same.2 in
       let a'' : p.s ≡ q.s = same.3 in
@@ -240,45 +201,45 @@ is_listing b rules c start inb first = record {
 
 -- the same of the lines' own start
 pub is_listing_of : (b : Bounds) (rules : RuleSet) (c : Cell) (lines : Lines) (line : Line) (s : ℕ) → lines.bounds ≡ b → lines.rules ≡ rules → lines.cell ≡ c → InBounds b c
-    → place_number line.stage line.m line.depth s ≤ 64 → ((h : Stage) (n e t : ℕ) → IsPlace b rules c h n e t → 64 ≤ place_number h n e t) → IsListing b rules c (instances_left lines line s)
+    → spot_number line.stage line.m line.depth s ≤ 64 → ((h : Stage) (n e t : ℕ) → IsSpot b rules c h n e t → 64 ≤ spot_number h n e t) → IsListing b rules c (instances_left lines line s)
 is_listing_of b rules c lines line s eb er ec inb low first = rw (eb, er, ec) (is_listing b rules c _ inb (λ h n e t p. let q = first h n e t p in omega arith))
 
--- ---- the list from one place to the next
+-- ---- the list from one spot to the next
 
 no_number : (b : Bounds) (rules : RuleSet) (c : Cell) (j : ℕ) → (Numbered b rules c j → ⊥) → is_numbered b rules c j ≡ false
 no_number b rules c j h = ⊎_elim (λ (e : is_numbered b rules c j ≡ true). absurd (h (numbered b rules c j e))) (λ (e : is_numbered b rules c j ≡ false). e) (cases_Bool (is_numbered b rules c j))
 
-pub listed_here : (b : Bounds) (rules : RuleSet) (c : Cell) (g : Stage) (m d s n : ℕ) → InBounds b c → IsPlace b rules c g m d s → n ≡ place_number g m d s → instances_from b rules c n ≡ instance_at c g m d s ∷ instances_from b rules c (n + 1)
+pub listed_here : (b : Bounds) (rules : RuleSet) (c : Cell) (g : Stage) (m d s n : ℕ) → InBounds b c → IsSpot b rules c g m d s → n ≡ spot_number g m d s → instances_from b rules c n ≡ instance_at c g m d s ∷ instances_from b rules c (n + 1)
 unfolding instances_from
 listed_here b rules c g m d s n inb p e =
     let t = numbered_back b rules c g m d s n inb p e in
-    let low : place_number g m d s < end_number = number_low b rules c g m d s inb p in
+    let low : spot_number g m d s < end_number = number_low b rules c g m d s inb p in
     let count : end_number - n ≡ suc (end_number - (n + 1)) = omega arith in
     rw count (picked_here (is_numbered b rules c) (instance_numbered c) (end_number - (n + 1)) n t.0 ∙ ap (λ (i : Instance). i ∷ picked (is_numbered b rules c) (instance_numbered c) (end_number - (n + 1)) (n + 1)) t.1)
 
-pub listed_none : (b : Bounds) (rules : RuleSet) (c : Cell) (n : ℕ) → ((h : Stage) (k e t : ℕ) → IsPlace b rules c h k e t → n ≤ place_number h k e t → ⊥) → instances_from b rules c n ≡ []
+pub listed_none : (b : Bounds) (rules : RuleSet) (c : Cell) (n : ℕ) → ((h : Stage) (k e t : ℕ) → IsSpot b rules c h k e t → n ≤ spot_number h k e t → ⊥) → instances_from b rules c n ≡ []
 unfolding instances_from
-listed_none b rules c n h = picked_none (is_numbered b rules c) (instance_numbered c) (end_number - n) n (λ j l. no_number b rules c j (λ q. h q.g q.m q.d q.s q.place (let e = q.parts.number_is in omega arith)))
+listed_none b rules c n h = picked_none (is_numbered b rules c) (instance_numbered c) (end_number - n) n (λ j l. no_number b rules c j (λ q. h q.g q.m q.d q.s q.spot (let e = q.parts.number_is in omega arith)))
 
-skipped : (b : Bounds) (rules : RuleSet) (c : Cell) (n n' : ℕ) → n ≤ n' → n' ≤ end_number → ((h : Stage) (k e t : ℕ) → IsPlace b rules c h k e t → n ≤ place_number h k e t → n' ≤ place_number h k e t) → instances_from b rules c n ≡ instances_from b rules c n'
+skipped : (b : Bounds) (rules : RuleSet) (c : Cell) (n n' : ℕ) → n ≤ n' → n' ≤ end_number → ((h : Stage) (k e t : ℕ) → IsSpot b rules c h k e t → n ≤ spot_number h k e t → n' ≤ spot_number h k e t) → instances_from b rules c n ≡ instances_from b rules c n'
 unfolding instances_from
 skipped b rules c n n' l near h =
     let count : end_number - n ≡ (n' - n) + (end_number - n') = omega arith in
     let there : n + (n' - n) ≡ n' = omega arith in
-    rw count (rw there at (picked_skip (is_numbered b rules c) (instance_numbered c) (n' - n) (end_number - n') n (λ j a a'. no_number b rules c j (λ q. let e = q.parts.number_is in let high = h q.g q.m q.d q.s q.place (omega arith) in omega arith))))
+    rw count (rw there at (picked_skip (is_numbered b rules c) (instance_numbered c) (n' - n) (end_number - n') n (λ j a a'. no_number b rules c j (λ q. let e = q.parts.number_is in let high = h q.g q.m q.d q.s q.spot (omega arith) in omega arith))))
 
--- numbers without a place may be left out
-pub listed_skip : (b : Bounds) (rules : RuleSet) (c : Cell) (n n' : ℕ) → InBounds b c → n ≤ n' → ((h : Stage) (k e t : ℕ) → IsPlace b rules c h k e t → n ≤ place_number h k e t → n' ≤ place_number h k e t) → instances_from b rules c n ≡ instances_from b rules c n'
+-- numbers without a spot may be left out
+pub listed_skip : (b : Bounds) (rules : RuleSet) (c : Cell) (n n' : ℕ) → InBounds b c → n ≤ n' → ((h : Stage) (k e t : ℕ) → IsSpot b rules c h k e t → n ≤ spot_number h k e t → n' ≤ spot_number h k e t) → instances_from b rules c n ≡ instances_from b rules c n'
 listed_skip b rules c n n' inb l h = ⊎_elim
-    (λ (far : end_number < n'). listed_none b rules c n (λ g m d s p k. let low : place_number g m d s < end_number = number_low b rules c g m d s inb p in let high = h g m d s p k in omega arith) ∙ sym (listed_none b rules c n' (λ g m d s p k. let low : place_number g m d s < end_number = number_low b rules c g m d s inb p in omega arith)))
+    (λ (far : end_number < n'). listed_none b rules c n (λ g m d s p k. let low : spot_number g m d s < end_number = number_low b rules c g m d s inb p in let high = h g m d s p k in omega arith) ∙ sym (listed_none b rules c n' (λ g m d s p k. let low : spot_number g m d s < end_number = number_low b rules c g m d s inb p in omega arith)))
     (λ (near : n' ≤ end_number). skipped b rules c n n' l near h)
     (cases_lt end_number n')
 
 -- ---- the cursor
 
--- a place from the cursor on stands in its line or in a later one
-cursor_cases : (lines : Lines) (line : Line) (s : ℕ) (h : Stage) (n e t : ℕ) → IsCursor lines line s → IsPlace lines.bounds lines.rules lines.cell h n e t → place_number line.stage line.m line.depth s ≤ place_number h n e t
-    → (IsPlace lines.bounds lines.rules lines.cell line.stage line.m line.depth t × (s ≤ t) × (place_number h n e t ≡ place_number line.stage line.m line.depth t)) ⊎ (key lines.stage lines.m lines.depth ≤ key h n e)
+-- a spot from the cursor on stands in its line or in a later one
+cursor_cases : (lines : Lines) (line : Line) (s : ℕ) (h : Stage) (n e t : ℕ) → IsCursor lines line s → IsSpot lines.bounds lines.rules lines.cell h n e t → spot_number line.stage line.m line.depth s ≤ spot_number h n e t
+    → (IsSpot lines.bounds lines.rules lines.cell line.stage line.m line.depth t × (s ≤ t) × (spot_number h n e t ≡ spot_number line.stage line.m line.depth t)) ⊎ (key lines.stage lines.m lines.depth ≤ key h n e)
 cursor_cases lines line s h n e t c p l =
     let st = stands lines.bounds lines.rules lines.cell h n e t lines.inside p in
     let w : width lines.bounds h < 63 = width_small lines.bounds h in
@@ -294,24 +255,24 @@ module _ (lines : Lines) (line : Line) (s : ℕ) (c : IsCursor lines line s) whe
   cursor_step : s ≤ line.last → IsCursor lines line (s + 1)
   cursor_step l = let z : line.last < 63 = c.last_small in let f : line.first ≤ s = c.from in record { right = c.right; m_small = c.m_small; depth_small = c.depth_small; last_small = c.last_small; from = omega arith; high = omega arith; before = c.before; ahead = c.ahead }
 
-  -- no place is skipped
+  -- no spot is skipped
   pub cursor_skip : s ≡ line.skip → s ≤ line.last → IsCursor lines line (s + 1) × (instances_left lines line s ≡ instances_left lines line (s + 1))
   cursor_skip e l = (
     cursor_step l,
     listed_skip lines.bounds lines.rules lines.cell _ _ lines.inside (omega arith) (λ h n k t p m. ⊎_elim
-        (λ (w : IsPlace lines.bounds lines.rules lines.cell line.stage line.m line.depth t × (s ≤ t) × (place_number h n k t ≡ place_number line.stage line.m line.depth t)). let r = (c.right.places t).0 w.0 in let a : s ≤ t = w.1 in let a' : t ≢ line.skip = r.2 in let q : place_number h n k t ≡ place_number line.stage line.m line.depth t = w.2 in omega arith)
+        (λ (w : IsSpot lines.bounds lines.rules lines.cell line.stage line.m line.depth t × (s ≤ t) × (spot_number h n k t ≡ spot_number line.stage line.m line.depth t)). let r = (c.right.spots t).0 w.0 in let a : s ≤ t = w.1 in let a' : t ≢ line.skip = r.2 in let q : spot_number h n k t ≡ spot_number line.stage line.m line.depth t = w.2 in omega arith)
         (λ (w : key lines.stage lines.m lines.depth ≤ key h n k). let b : key line.stage line.m line.depth < key lines.stage lines.m lines.depth = c.before in let z : line.last < 63 = c.last_small in omega arith)
         (cursor_cases lines line s h n k t c p m)),
   )
 
-  -- the place that the cursor is at
-  pub cursor_here : s ≢ line.skip → s ≤ line.last → IsPlace lines.bounds lines.rules lines.cell line.stage line.m line.depth s × IsCursor lines line (s + 1) × (instances_left lines line s ≡ instance_at lines.cell line.stage line.m line.depth s ∷ instances_left lines line (s + 1))
+  -- the spot that the cursor is at
+  pub cursor_here : s ≢ line.skip → s ≤ line.last → IsSpot lines.bounds lines.rules lines.cell line.stage line.m line.depth s × IsCursor lines line (s + 1) × (instances_left lines line s ≡ instance_at lines.cell line.stage line.m line.depth s ∷ instances_left lines line (s + 1))
   cursor_here ne l =
-      let p = (c.right.places s).1 (c.from, l, ne) in
-      let e : place_number line.stage line.m line.depth s + 1 ≡ place_number line.stage line.m line.depth (s + 1) = omega arith in
-      (p, cursor_step l, rw e at (listed_here lines.bounds lines.rules lines.cell line.stage line.m line.depth s (place_number line.stage line.m line.depth s) lines.inside p refl))
+      let p = (c.right.spots s).1 (c.from, l, ne) in
+      let e : spot_number line.stage line.m line.depth s + 1 ≡ spot_number line.stage line.m line.depth (s + 1) = omega arith in
+      (p, cursor_step l, rw e at (listed_here lines.bounds lines.rules lines.cell line.stage line.m line.depth s (spot_number line.stage line.m line.depth s) lines.inside p refl))
 
-  pub cursor_low : place_number line.stage line.m line.depth s < end_number + 65536
+  pub cursor_low : spot_number line.stage line.m line.depth s < end_number + 65536
   cursor_low =
       let b : key line.stage line.m line.depth < key lines.stage lines.m lines.depth = c.before in
       let z : s ≤ 63 = c.high in
@@ -319,16 +280,16 @@ module _ (lines : Lines) (line : Line) (s : ℕ) (c : IsCursor lines line s) whe
       let small = position_small lines.bounds lines.stage lines.m lines.depth lines.position in
       omega arith
 
-  -- past the end of the line every place stands in a later line
-  later_lines : line.last < s → (h : Stage) (n e t : ℕ) → IsPlace lines.bounds lines.rules lines.cell h n e t → place_number line.stage line.m line.depth s ≤ place_number h n e t → key lines.stage lines.m lines.depth ≤ key h n e
+  -- past the end of the line every spot stands in a later line
+  later_lines : line.last < s → (h : Stage) (n e t : ℕ) → IsSpot lines.bounds lines.rules lines.cell h n e t → spot_number line.stage line.m line.depth s ≤ spot_number h n e t → key lines.stage lines.m lines.depth ≤ key h n e
   later_lines l h n e t p m = ⊎_elim
-      (λ (w : IsPlace lines.bounds lines.rules lines.cell line.stage line.m line.depth t × (s ≤ t) × (place_number h n e t ≡ place_number line.stage line.m line.depth t)). absurd (let r = (c.right.places t).0 w.0 in let a : s ≤ t = w.1 in let a' : t ≤ line.last = r.1 in omega arith))
+      (λ (w : IsSpot lines.bounds lines.rules lines.cell line.stage line.m line.depth t × (s ≤ t) × (spot_number h n e t ≡ spot_number line.stage line.m line.depth t)). absurd (let r = (c.right.spots t).0 w.0 in let a : s ≤ t = w.1 in let a' : t ≤ line.last = r.1 in omega arith))
       (λ (w : key lines.stage lines.m lines.depth ≤ key h n e). w)
       (cursor_cases lines line s h n e t c p m)
 
   module _ (lines' : Lines) (eb : lines'.bounds ≡ lines.bounds) (er : lines'.rules ≡ lines.rules) (ec : lines'.cell ≡ lines.cell) (past : line.last < s) where
     -- no line is left
-    pub cursor_end : ((g : Stage) (m d s : ℕ) → IsPlace lines.bounds lines.rules lines.cell g m d s → key lines.stage lines.m lines.depth ≤ key g m d → ⊥) → key lines.stage lines.m lines.depth ≤ key lines'.stage lines'.m lines'.depth
+    pub cursor_end : ((g : Stage) (m d s : ℕ) → IsSpot lines.bounds lines.rules lines.cell g m d s → key lines.stage lines.m lines.depth ≤ key g m d → ⊥) → key lines.stage lines.m lines.depth ≤ key lines'.stage lines'.m lines'.depth
         → IsCursor lines' line s × (instances_left lines line s ≡ []) × (instances_left lines' line s ≡ [])
     cursor_end none later =
         let b : key line.stage line.m line.depth < key lines.stage lines.m lines.depth = c.before in
@@ -350,8 +311,8 @@ module _ (lines : Lines) (line : Line) (s : ℕ) (c : IsCursor lines line s) whe
     -- the next line
     pub cursor_next : (line' : Line) → IsPosition lines.bounds line'.stage line'.m line'.depth → IsRightLine lines.bounds lines.rules lines.cell line'.stage line'.m line'.depth line'
         → key lines.stage lines.m lines.depth ≤ key line'.stage line'.m line'.depth → key line'.stage line'.m line'.depth < key lines'.stage lines'.m lines'.depth → line'.first ≤ line'.last
-        → ((g : Stage) (m d s : ℕ) → IsPlace lines.bounds lines.rules lines.cell g m d s → key lines.stage lines.m lines.depth ≤ key g m d → (key g m d ≡ key line'.stage line'.m line'.depth) ⊎ (key lines'.stage lines'.m lines'.depth ≤ key g m d))
-        → IsCursor lines' line' line'.first × (instances_left lines line s ≡ instances_left lines' line' line'.first) × (place_number line.stage line.m line.depth s < place_number line'.stage line'.m line'.depth line'.first)
+        → ((g : Stage) (m d s : ℕ) → IsSpot lines.bounds lines.rules lines.cell g m d s → key lines.stage lines.m lines.depth ≤ key g m d → (key g m d ≡ key line'.stage line'.m line'.depth) ⊎ (key lines'.stage lines'.m lines'.depth ≤ key g m d))
+        → IsCursor lines' line' line'.first × (instances_left lines line s ≡ instances_left lines' line' line'.first) × (spot_number line.stage line.m line.depth s < spot_number line'.stage line'.m line'.depth line'.first)
     cursor_next line' pos right after before' some passed =
         let b : key line.stage line.m line.depth < key lines.stage lines.m lines.depth = c.before in
         let z : s ≤ 63 = c.high in
@@ -374,7 +335,7 @@ module _ (lines : Lines) (line : Line) (s : ℕ) (c : IsCursor lines line s) whe
               ⊎_elim
               (λ (q : key h n e ≡ key line'.stage line'.m line'.depth).
               let same = key_apart h line'.stage n e line'.m line'.depth st.m_small st.depth_small small.0 small.1 q in
-              let r = (right.places t).0 (rw (same.0, same.1, same.2) at p) in
+              let r = (right.spots t).0 (rw (same.0, same.1, same.2) at p) in
               let f : line'.first ≤ t = r.0 in
               omega arith)
               (λ (q : key lines'.stage lines'.m lines'.depth ≤ key h n e). omega arith)

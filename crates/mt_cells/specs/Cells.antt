@@ -22,6 +22,11 @@ abbrev pub columns_of : Cell → ℕ
 columns_of (Ooa o m s depth) = m
 columns_of (Seq o m s) = m
 
+-- the coordinates of its systems
+abbrev pub coordinates_of : Cell → ℕ
+coordinates_of (Ooa o m s depth) = s
+coordinates_of (Seq o m s) = s
+
 -- the order of cells: by q; then arrays before sequences; arrays by m, s and depth, sequences by m and s
 abbrev pub Before : Cell → Cell → Type 0
 Before (Ooa o m s d) (Ooa p n t e) = (number_of o < number_of p) ⊎ ((o ≡ p) × ((m < n) ⊎ ((m ≡ n) × ((s < t) ⊎ ((s ≡ t) × (d < e))))))
@@ -29,15 +34,15 @@ Before (Ooa o m s d) (Seq p n t) = number_of o ≤ number_of p
 Before (Seq o m s) (Ooa p n t e) = number_of o < number_of p
 Before (Seq o m s) (Seq p n t) = (number_of o < number_of p) ⊎ ((o ≡ p) × ((m < n) ⊎ ((m ≡ n) × (s < t))))
 
--- the place of an order among the seven
-abbrev pub place_of : Order → ℕ
-place_of Q2 = 0
-place_of Q3 = 1
-place_of Q4 = 2
-place_of Q5 = 3
-place_of Q7 = 4
-place_of Q8 = 5
-place_of Q9 = 6
+-- the index of an order among the seven
+abbrev pub index_of : Order → ℕ
+index_of Q2 = 0
+index_of Q3 = 1
+index_of Q4 = 2
+index_of Q5 = 3
+index_of Q7 = 4
+index_of Q8 = 5
+index_of Q9 = 6
 
 -- the sum of the numbers below n
 unfoldable pub triangle : ℕ → ℕ
@@ -55,7 +60,7 @@ per_order_of b = arrays_of b + b.m_max * b.s_max
 abbrev pub cells_of : Bounds → ℕ
 cells_of b = 7 * per_order_of b
 
--- the number of a cell, which is its place in the order
+-- the number of a cell, which is how many stand before it
 unfoldable pub number : Bounds → Cell → ℕ
-number b (Ooa o m s depth) = place_of o * per_order_of b + (b.s_max * triangle m + ((s - 1) * m + (depth - 1)))
-number b (Seq o m s) = place_of o * per_order_of b + (arrays_of b + ((m - 1) * b.s_max + (s - 1)))
+number b (Ooa o m s depth) = index_of o * per_order_of b + (b.s_max * triangle m + ((s - 1) * m + (depth - 1)))
+number b (Seq o m s) = index_of o * per_order_of b + (arrays_of b + ((m - 1) * b.s_max + (s - 1)))

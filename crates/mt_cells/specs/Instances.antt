@@ -1,27 +1,16 @@
 -- Instances of the configured rules.
-use Rattle.std.specs.Prelude.{◌≡◌, ◌≢◌, ℕ, ◌+◌, ◌*◌, ◌≤◌, ◌⊎◌, Bool, true, Option, None, Some, List, length, All, AllPairs, Contains}
+use Rattle.std.specs.Prelude.{◌≡◌, ◌≢◌, ℕ, ◌+◌, ◌*◌, ◌≤◌, ◌⊎◌, Bool, true, false, Option, None, Some, List, length, get_or, All, AllPairs, Contains}
 use Rattle.mt_cells.specs.declared.bounds.Bounds.{Bounds}
 use Rattle.mt_cells.specs.declared.cells.Cell.{Cell}
 use Rattle.mt_cells.specs.declared.rules.Rule.{Rule}
-use Rattle.mt_cells.specs.declared.rules.Rule.TheVariants.{Fewer, Shallower, Deeper, Longer, QuotientKeep, QuotientDrop, SeqFewer, SeqCut, SeqToNet, Product, Uuv}
 use Rattle.mt_cells.specs.declared.rules.RuleSet.{RuleSet}
 use Rattle.mt_cells.specs.declared.instances.Instance.{Instance}
 use Rattle.mt_cells.specs.Cells.{InBounds}
-use Rattle.mt_cells.specs.Rules.{HasTarget, target, conclusion, HasPairTarget, pair_target, pair_conclusion}
+use Rattle.mt_cells.specs.Rules.{rule_index, HasTarget, target, conclusion, HasPairTarget, pair_target, pair_conclusion}
 
 -- the rule is among those of a table
 abbrev pub has_rule : RuleSet → Rule → Bool
-has_rule rules Fewer = rules.fewer
-has_rule rules Shallower = rules.shallower
-has_rule rules Deeper = rules.deeper
-has_rule rules Longer = rules.longer
-has_rule rules QuotientKeep = rules.quotient_keep
-has_rule rules QuotientDrop = rules.quotient_drop
-has_rule rules SeqFewer = rules.seq_fewer
-has_rule rules SeqCut = rules.seq_cut
-has_rule rules SeqToNet = rules.seq_to_net
-has_rule rules Product = rules.product
-has_rule rules Uuv = rules.uuv
+has_rule rules r = get_or rules.used (rule_index r) false
 
 -- the rule leads from its parents, which are cells of the bounds, to the target
 abbrev pub Leads : Bounds → Rule → Cell → Cell → Option Cell → Type 0
@@ -41,6 +30,11 @@ conclusion_by rule first (Some second) j k = pair_conclusion rule first second j
 
 abbrev pub conclusion_of : Instance → ℕ → ℕ → ℕ
 conclusion_of i j k = conclusion_by i.rule i.first i.second j k
+
+-- the second parent, or the first where there is one only
+abbrev pub second_or : Cell → Option Cell → Cell
+second_or c None = c
+second_or c (Some e) = e
 
 -- the instance has the cell as a parent
 abbrev pub HasParent : Cell → Instance → Type 0

@@ -3,7 +3,7 @@ pub mod Cells
 pub mod Laws
 pub mod Rules
 pub mod Instances
-pub mod Places
+pub mod Spots
 pub mod Propositions
 pub mod Listed
 pub mod Numbers

@@ -1,3 +1,4 @@
+-- Internal: a reader need not believe this.
 -- That a cell is in the bounds has one proof at most, as a ghost field wants.
 use Rattle.std.proofs.Props.{props}
 use Rattle.mt_cells.specs.declared.bounds.Bounds.{Bounds}

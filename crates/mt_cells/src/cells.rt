@@ -1,13 +1,13 @@
 //! Cells and their numbers.
 ghost use Rattle.std.specs.Prelude.{◌≡◌, ◌+◌, ◌*◌, ◌<◌, ◌≤◌, ◌↔◌, IsSome, IfSome};
-ghost use Rattle.mt_cells.specs.Cells.{InBounds, columns_of, order_of, number, place_of, arrays_of, per_order_of, cells_of};
+ghost use Rattle.mt_cells.specs.Cells.{InBounds, columns_of, order_of, number, index_of, arrays_of, per_order_of, cells_of};
 
 use crate::asks::Kind;
 use crate::bounds::Bounds;
 use mt_linear::Order;
 use std::fmt;
 
-/// A place in the table.
+/// A cell of the table.
 #[derive(Clone, Copy, PartialEq, Eq, Debug)]
 pub enum Cell {
     /// Ordered orthogonal arrays over a field of this order, with `m` columns and `s` coordinates of
@@ -46,7 +46,7 @@ impl Cell {
         }
     }
 
-    /// The number of the cell among those of the bounds: its place in their order, from 0.
+    /// The number of the cell among those of the bounds, in their order, from 0.
     #[inline(always)]
     pub fn number(self, bounds: Bounds) -> u32
         requires { InBounds bounds self }
@@ -56,11 +56,11 @@ impl Cell {
         match self {
             Cell::Ooa { order, m, s, depth } => {
                 let rest = (s as u32 - 1) * m as u32 + (depth as u32 - 1);
-                place(order) * bounds.per_order() + (bounds.arrays_below(m) + rest)
+                index(order) * bounds.per_order() + (bounds.arrays_below(m) + rest)
             }
             Cell::Seq { order, m, s } => {
                 let rest = (m as u32 - 1) * bounds.s_max as u32 + (s as u32 - 1);
-                place(order) * bounds.per_order() + (bounds.arrays() + rest)
+                index(order) * bounds.per_order() + (bounds.arrays() + rest)
             }
         }
     }
@@ -114,10 +114,10 @@ impl fmt::Display for Cell {
     }
 }
 
-// The place of the order among the seven.
+// The index of the order among the seven.
 #[inline(always)]
-fn place(order: Order) -> u32
-    ensures value { result ≡ place_of order }
+fn index(order: Order) -> u32
+    ensures value { result ≡ index_of order }
     ensures below { result < 7 }
 {
     match order {
@@ -131,11 +131,11 @@ fn place(order: Order) -> u32
     }
 }
 
-fn order_at(place: u32) -> Order
-    requires { place < 7 }
-    ensures { place_of result ≡ place }
+fn order_at(index: u32) -> Order
+    requires { index < 7 }
+    ensures { index_of result ≡ index }
 {
-    match place {
+    match index {
         0 => Order::Q2,
         1 => Order::Q3,
         2 => Order::Q4,
@@ -150,7 +150,7 @@ fn order_at(place: u32) -> Order
 fn array_at(bounds: Bounds, order: Order, before: u32) -> Cell
     requires { before < arrays_of bounds }
     ensures inside { InBounds bounds result }
-    ensures number { number bounds result ≡ place_of order * per_order_of bounds + before }
+    ensures number { number bounds result ≡ index_of order * per_order_of bounds + before }
 {
     let mut rest = before;
     let mut m: u8 = 1;
@@ -171,7 +171,7 @@ fn sequence_at(bounds: Bounds, order: Order, before: u32) -> Cell
     requires { before < bounds.m_max * bounds.s_max }
     ensures inside { InBounds bounds result }
     ensures number { number bounds result
-        ≡ place_of order * per_order_of bounds + (arrays_of bounds + before) }
+        ≡ index_of order * per_order_of bounds + (arrays_of bounds + before) }
 {
     let width = bounds.s_max as u32;
     Cell::Seq {

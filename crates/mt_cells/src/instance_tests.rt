@@ -9,17 +9,7 @@ use std::sync::ledger::{Blank, Ledger};
 use std::test::Fail;
 
 const NONE: RuleSet = RuleSet {
-    fewer: false,
-    shallower: false,
-    deeper: false,
-    longer: false,
-    quotient_keep: false,
-    quotient_drop: false,
-    seq_fewer: false,
-    seq_cut: false,
-    seq_to_net: false,
-    product: false,
-    uuv: false,
+    used: [false; RULES],
 };
 
 fn array(m: u8, s: u8, depth: u8) -> Cell
@@ -48,11 +38,9 @@ fn sequence(m: u8, s: u8) -> Cell
 fn are_instances(bounds: Bounds, parent: Cell, wanted: &[(Rule, Cell)]) -> bool
     requires { InBounds bounds parent }
 {
-    let rules = RuleSet {
-        product: false,
-        uuv: false,
-        ..RuleSet::all()
-    };
+    let mut rules = RuleSet::all();
+    rules.used[Rule::Product.index()] = false;
+    rules.used[Rule::Uuv.index()] = false;
     let mut instances = instances_of_parent(bounds, rules, parent);
     for pair in wanted {
         let instance = Instance {

@@ -1,10 +1,10 @@
 //! Instances of rules, and what they conclude.
-ghost use Rattle.std.specs.Prelude.{◌≡◌, ◌+◌, ◌*◌, ◌↔◌, IsTrue};
+ghost use Rattle.std.specs.Prelude.{◌≡◌, ◌+◌, ◌*◌};
 ghost use Rattle.mt_cells.specs.Cells.{InBounds};
-ghost use Rattle.mt_cells.specs.Rules.{HasTarget, target, conclusion, deepened_strength};
+ghost use Rattle.mt_cells.specs.Rules.{has_target as has_target_by, target, conclusion, deepened_strength};
 ghost use Rattle.mt_cells.specs.Rules.{HasPairTarget, pair_target, pair_conclusion as conclusion_of_pair};
-ghost use Rattle.mt_cells.specs.Instances.{conclusion_of, fan_of, IsListing};
-ghost use Rattle.mt_cells.specs.Places.{second_or, single_instance as single_of, pair_instance as pair_of};
+ghost use Rattle.mt_cells.specs.Instances.{conclusion_of, fan_of, second_or, IsListing};
+ghost use Rattle.mt_cells.specs.Spots.{single_instance as single_of, pair_instance as pair_of};
 
 use crate::bounds::Bounds;
 use crate::cells::Cell;
@@ -135,9 +135,7 @@ fn pair_conclusion(rule: Rule, p: Cell, q: Cell, j: u8, k: u8) -> u8
     match rule {
         Rule::Product => deepened(depth, deeper, j).min(k),
         Rule::Uuv => (2 * deepened(depth, deeper, j) as u16 + 1).min(k as u16) as u8,
-        Rule::Fewer | Rule::Shallower | Rule::Deeper | Rule::Longer => 0,
-        Rule::QuotientKeep | Rule::QuotientDrop => 0,
-        Rule::SeqFewer | Rule::SeqCut | Rule::SeqToNet => 0,
+        _ => 0,
     }
 }
 
@@ -160,15 +158,14 @@ fn single_conclusion(rule: Rule, parent: Cell, k: u8) -> u8
             Cell::Seq { .. } => k,
         },
         Rule::QuotientKeep | Rule::QuotientDrop | Rule::SeqCut => k.saturating_sub(1),
-        Rule::Fewer | Rule::Shallower | Rule::Longer | Rule::SeqFewer | Rule::SeqToNet => k,
-        Rule::Product | Rule::Uuv => k,
+        _ => k,
     }
 }
 
 // Whether a rule with one parent has a target for it.
 #[inline(always)]
 pub(crate) fn has_target(bounds: Bounds, rule: Rule, cell: Cell) -> bool
-    ensures { IsTrue result ↔ HasTarget bounds rule cell }
+    ensures { result ≡ has_target_by bounds rule cell }
 {
     match cell {
         Cell::Ooa { m, s, depth, .. } => match rule {
@@ -178,16 +175,13 @@ pub(crate) fn has_target(bounds: Bounds, rule: Rule, cell: Cell) -> bool
             Rule::Longer => m < bounds.m_max,
             Rule::QuotientKeep => 2 <= m && 2 <= depth,
             Rule::QuotientDrop => 2 <= m && 2 <= s && depth < m,
-            Rule::SeqFewer | Rule::SeqCut | Rule::SeqToNet => false,
-            Rule::Product | Rule::Uuv => false,
+            _ => false,
         },
         Cell::Seq { m, s, .. } => match rule {
             Rule::SeqFewer => 2 <= s,
             Rule::SeqCut => 2 <= m,
             Rule::SeqToNet => s < bounds.s_max,
-            Rule::Fewer | Rule::Shallower | Rule::Deeper => false,
-            Rule::Longer | Rule::QuotientKeep | Rule::QuotientDrop => false,
-            Rule::Product | Rule::Uuv => false,
+            _ => false,
         },
     }
 }
@@ -195,8 +189,7 @@ pub(crate) fn has_target(bounds: Bounds, rule: Rule, cell: Cell) -> bool
 // The instance of a rule with one parent.
 #[inline(always)]
 pub(crate) fn single_instance(bounds: Bounds, rule: Rule, cell: Cell) -> Instance
-    requires inside { InBounds bounds cell }
-    requires has { HasTarget bounds rule cell }
+    requires { InBounds bounds cell }
     ensures { result ≡ single_of rule cell }
 {
     Instance {
@@ -209,8 +202,7 @@ pub(crate) fn single_instance(bounds: Bounds, rule: Rule, cell: Cell) -> Instanc
 
 #[inline(always)]
 fn target_of(bounds: Bounds, rule: Rule, cell: Cell) -> Cell
-    requires inside { InBounds bounds cell }
-    requires has { HasTarget bounds rule cell }
+    requires { InBounds bounds cell }
     ensures { result ≡ target rule cell }
 {
     let _ = bounds;
@@ -222,16 +214,13 @@ fn target_of(bounds: Bounds, rule: Rule, cell: Cell) -> Cell
             Rule::Longer => array(order, m + 1, s, depth),
             Rule::QuotientKeep => array(order, m - 1, s, depth - 1),
             Rule::QuotientDrop => array(order, m - 1, s - 1, depth),
-            Rule::SeqFewer | Rule::SeqCut | Rule::SeqToNet => cell,
-            Rule::Product | Rule::Uuv => cell,
+            _ => cell,
         },
         Cell::Seq { order, m, s } => match rule {
             Rule::SeqFewer => Cell::Seq { order, m, s: s - 1 },
             Rule::SeqCut => Cell::Seq { order, m: m - 1, s },
             Rule::SeqToNet => array(order, m, s + 1, m),
-            Rule::Fewer | Rule::Shallower | Rule::Deeper => cell,
-            Rule::Longer | Rule::QuotientKeep | Rule::QuotientDrop => cell,
-            Rule::Product | Rule::Uuv => cell,
+            _ => cell,
         },
     }
 }
@@ -255,7 +244,7 @@ fn target_of_pair(bounds: Bounds, rule: Rule, p: Cell, q: Cell) -> Cell
     requires has { HasPairTarget bounds rule p q }
     ensures { result ≡ pair_target rule p q }
 {
-    let _ = bounds;
+    let _ = (bounds, rule);
     match (p, q) {
         (
             Cell::Ooa { order, m, s, .. },
@@ -265,12 +254,7 @@ fn target_of_pair(bounds: Bounds, rule: Rule, p: Cell, q: Cell) -> Cell
                 depth,
                 ..
             },
-        ) => match rule {
-            Rule::Product | Rule::Uuv => array(order, m + n, s + t, depth),
-            Rule::Fewer | Rule::Shallower | Rule::Deeper | Rule::Longer => p,
-            Rule::QuotientKeep | Rule::QuotientDrop => p,
-            Rule::SeqFewer | Rule::SeqCut | Rule::SeqToNet => p,
-        },
+        ) => array(order, m + n, s + t, depth),
         _ => p,
     }
 }

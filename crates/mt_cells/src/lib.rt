@@ -22,5 +22,5 @@ pub use instances::{Instance, Instances, conclude, fan, instances_of_parent};
 pub use lines::{Line, Lines, Stage, lines_of_parent};
 pub use mt_linear::Steps;
 pub use numbers::plain_number;
-pub use rules::{Rule, RuleSet};
+pub use rules::{RULES, Rule, RuleSet};
 pub use sizes::Sizes;

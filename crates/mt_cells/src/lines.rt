@@ -1,54 +1,69 @@
 //! The lines of instances of a parent.
-ghost use Rattle.std.specs.Prelude.{◌≡◌, ◌≢◌, ℕ, ◌+◌, ◌-◌, ◌<◌, ◌≤◌, ◌⊎◌, ◌↔◌, true, IsTrue, IfSome, MatchOption};
-ghost use Rattle.mt_cells.specs.Cells.{InBounds};
-ghost use Rattle.mt_cells.specs.Rules.{HasTarget};
-ghost use Rattle.mt_cells.specs.Instances.{fan_of, has_rule};
+ghost use Rattle.std.specs.Prelude.{◌≡◌, ◌≢◌, ℕ, ◌+◌, ◌-◌, ◌*◌, ◌<◌, ◌≤◌, ◌⊎◌, ◌↔◌, true, IsTrue, IfSome, MatchOption};
+ghost use Rattle.mt_cells.specs.Cells.{InBounds, coordinates_of};
+ghost use Rattle.mt_cells.specs.Rules.{HasTarget, is_pair_rule, rule_index};
+ghost use Rattle.mt_cells.specs.Instances.{has_rule};
 ghost use Rattle.mt_cells.specs.Propositions.{InBounds-prop};
-ghost use Rattle.mt_cells.specs.Places.{IsPosition, IsPlace, IsRightLine, instance_at, key, left, other, rank, width};
-ghost use Rattle.mt_cells.specs.Places.{coordinates_of, FitsFirst, FitsSecond, reach as reach_of};
+ghost use Rattle.mt_cells.specs.Spots.{IsPosition, IsSpot, IsUsed, IsRightLine, first_stage, instance_at, key, other, rank};
+ghost use Rattle.mt_cells.specs.Spots.{FitsFirst, FitsSecond, reach as reach_of};
+ghost use Rattle.mt_cells.specs.Spots.{least_second as least_second_of, most_first as most_first_of};
 
 use crate::bounds::Bounds;
 use crate::cells::Cell;
 use crate::instances::{Instance, array, has_target, pair_instance, single_instance};
 use crate::rules::{Rule, RuleSet};
 
-/// The kinds of instances that a parent has, in their order.
+/// The kinds of instances that a parent has, in their order: those of each rule in turn. A rule has
+/// either instances with one parent or those with two.
 #[derive(Clone, Copy, PartialEq, Eq, Debug)]
 pub enum Stage {
-    /// The instance of a rule with one parent. A rule with two has none here.
+    /// The instance of a rule with one parent.
     Single(Rule),
-    /// The direct products with the cell as first parent.
-    ProductFirst,
-    /// The direct products with the cell as second parent, but for that with itself.
-    ProductSecond,
-    /// Those by (u,u+v) with the cell as first parent.
-    UuvFirst,
-    /// Those by (u,u+v) with the cell as second parent, but for that with itself.
-    UuvSecond,
+    /// Those of a rule with two parents with the cell as the first.
+    First(Rule),
+    /// Those with the cell as the second, but for that with itself.
+    Second(Rule),
     End,
 }
 
 impl Stage {
+    // The first stage of the rule.
+    fn of_rule(rule: Option<Rule>) -> Stage
+        ensures { result ≡ first_stage rule }
+    {
+        match rule {
+            Some(rule) if rule.is_pair() => Stage::First(rule),
+            Some(rule) => Stage::Single(rule),
+            None => Stage::End,
+        }
+    }
+
+    // The first stage of the next rule.
+    fn after(rule: Rule) -> Stage
+        ensures later { 3 * rule_index rule + 2 < rank result }
+        ensures none { (g : Stage) → IsUsed g → 3 * rule_index rule + 3 ≤ rank g
+            → rank result ≤ rank g }
+    {
+        Stage::of_rule(rule.following())
+    }
+
+    // The next stage that may have instances.
     fn following(self) -> Stage
         requires { self ≢ Stage.End }
-        ensures { rank result ≡ rank self + 1 }
+        ensures later { rank self < rank result }
+        ensures none { (g : Stage) → IsUsed g → rank self < rank g → rank result ≤ rank g }
     {
         match self {
-            Stage::Single(Rule::Fewer) => Stage::Single(Rule::Shallower),
-            Stage::Single(Rule::Shallower) => Stage::Single(Rule::Deeper),
-            Stage::Single(Rule::Deeper) => Stage::Single(Rule::Longer),
-            Stage::Single(Rule::Longer) => Stage::Single(Rule::QuotientKeep),
-            Stage::Single(Rule::QuotientKeep) => Stage::Single(Rule::QuotientDrop),
-            Stage::Single(Rule::QuotientDrop) => Stage::Single(Rule::SeqFewer),
-            Stage::Single(Rule::SeqFewer) => Stage::Single(Rule::SeqCut),
-            Stage::Single(Rule::SeqCut) => Stage::Single(Rule::SeqToNet),
-            Stage::Single(Rule::SeqToNet) => Stage::Single(Rule::Product),
-            Stage::Single(Rule::Product) => Stage::Single(Rule::Uuv),
-            Stage::Single(Rule::Uuv) => Stage::ProductFirst,
-            Stage::ProductFirst => Stage::ProductSecond,
-            Stage::ProductSecond => Stage::UuvFirst,
-            Stage::UuvFirst => Stage::UuvSecond,
-            Stage::UuvSecond | Stage::End => Stage::End,
+            Stage::Single(rule) => {
+                if rule.is_pair() {
+                    Stage::First(rule)
+                } else {
+                    Stage::after(rule)
+                }
+            }
+            Stage::First(rule) => Stage::Second(rule),
+            Stage::Second(rule) => Stage::after(rule),
+            Stage::End => Stage::End,
         }
     }
 }
@@ -86,9 +101,8 @@ pub fn lines_of_parent(bounds: Bounds, rules: RuleSet, cell: Cell) -> Lines
     ensures bounds { result.bounds ≡ bounds }
     ensures rules { result.rules ≡ rules }
     ensures cell { result.cell ≡ cell }
-    ensures first { (g : Stage) (m d s : ℕ) → IsPlace bounds rules cell g m d s
+    ensures first { (g : Stage) (m d s : ℕ) → IsSpot bounds rules cell g m d s
         → key result.stage result.m result.depth ≤ key g m d }
-    ensures few { left bounds result.stage result.m result.depth ≤ fan_of bounds }
 {
     Lines {
         bounds,
@@ -105,17 +119,15 @@ impl Line {
     #[inline(always)]
     pub fn instance(&self, bounds: Bounds, rules: RuleSet, cell: Cell, s: u8) -> Instance
         requires inside { InBounds bounds cell }
-        requires place { IsPlace bounds rules cell self.now.stage self.now.m self.now.depth s }
+        requires spot { IsSpot bounds rules cell self.now.stage self.now.m self.now.depth s }
         ensures { result ≡ instance_at cell self.now.stage self.now.m self.now.depth s }
     {
         let _ = rules;
         let other = array(cell.order(), self.m, s, self.depth);
         match self.stage {
             Stage::Single(rule) => single_instance(bounds, rule, cell),
-            Stage::ProductFirst => pair_instance(bounds, Rule::Product, cell, other),
-            Stage::ProductSecond => pair_instance(bounds, Rule::Product, other, cell),
-            Stage::UuvFirst => pair_instance(bounds, Rule::Uuv, cell, other),
-            Stage::UuvSecond => pair_instance(bounds, Rule::Uuv, other, cell),
+            Stage::First(rule) => pair_instance(bounds, rule, cell, other),
+            Stage::Second(rule) => pair_instance(bounds, rule, other, cell),
             Stage::End => single_instance(bounds, Rule::Fewer, cell),
         }
     }
@@ -149,17 +161,12 @@ impl Lines {
                     line.last = 1;
                 }
             }
-            Stage::ProductFirst => line.last = self.room_of_second(Rule::Product),
-            Stage::ProductSecond => {
-                line.last = self.room_of_first(Rule::Product);
-                line.skip = self.own();
+            Stage::First(rule) => {
+                line.first = self.least_second(rule);
+                line.last = self.room_of_second(rule);
             }
-            Stage::UuvFirst => {
-                line.first = self.coordinates();
-                line.last = self.room_of_second(Rule::Uuv);
-            }
-            Stage::UuvSecond => {
-                line.last = self.coordinates().min(self.room_of_first(Rule::Uuv));
+            Stage::Second(rule) => {
+                line.last = self.most_first(rule);
                 line.skip = self.own();
             }
             Stage::End => {}
@@ -173,6 +180,30 @@ impl Lines {
     {
         match self.cell {
             Cell::Ooa { s, .. } | Cell::Seq { s, .. } => s,
+        }
+    }
+
+    // The least `s` of a second parent beside the cell.
+    fn least_second(&self, rule: Rule) -> u8
+        ensures { result ≡ least_second_of rule self.now.cell }
+    {
+        match rule {
+            Rule::Uuv => self.coordinates(),
+            _ => 1,
+        }
+    }
+
+    // The greatest `s` of a first parent beside the cell.
+    fn most_first(&self, rule: Rule) -> u8
+        ensures high { result ≤ self.now.bounds.s_max - 1 }
+        ensures fits { (s : ℕ) → 1 ≤ s → ((s ≤ result) ↔ (FitsSecond self.now.bounds self.now.rules
+            rule self.now.cell self.now.m self.now.depth s
+            × (s ≤ most_first_of rule self.now.cell s))) }
+    {
+        let room = self.room_of_first(rule);
+        match rule {
+            Rule::Uuv => self.coordinates().min(room),
+            _ => room,
         }
     }
 
@@ -215,13 +246,13 @@ impl Lines {
         }
     }
 
-    // Whether the rule is configured, and a cell with this m leaves room for the columns.
+    // Whether the rule has two parents and is configured, and a cell with this m leaves room for the columns.
     fn pairs(&self, rule: Rule, m: u8) -> bool
         requires { m ≤ self.now.bounds.m_max }
-        ensures { IsTrue result ↔ ((has_rule self.now.rules rule ≡ true)
+        ensures { IsTrue result ↔ ((is_pair_rule rule ≡ true) × (has_rule self.now.rules rule ≡ true)
             × (m + self.now.m ≤ self.now.bounds.m_max)) }
     {
-        self.rules.has(rule) && m + self.m <= self.bounds.m_max
+        rule.is_pair() && self.rules.has(rule) && m + self.m <= self.bounds.m_max
     }
 
     /// The next line that is not empty.
@@ -229,17 +260,15 @@ impl Lines {
         ensures bounds { self.new.bounds ≡ self.old.bounds }
         ensures rules { self.new.rules ≡ self.old.rules }
         ensures cell { self.new.cell ≡ self.old.cell }
-        ensures place { IfSome result (λ l. IsPosition self.old.bounds l.stage l.m l.depth) }
+        ensures position { IfSome result (λ l. IsPosition self.old.bounds l.stage l.m l.depth) }
         ensures line { IfSome result (λ l.
             IsRightLine self.old.bounds self.old.rules self.old.cell l.stage l.m l.depth l) }
         ensures after { IfSome result (λ l.
             (key self.old.stage self.old.m self.old.depth ≤ key l.stage l.m l.depth)
             × (key l.stage l.m l.depth < key self.new.stage self.new.m self.new.depth)) }
-        ensures few { IfSome result (λ l. (l.first ≤ l.last)
-            × (left self.new.bounds self.new.stage self.new.m self.new.depth + l.last
-            ≤ left self.old.bounds self.old.stage self.old.m self.old.depth)) }
+        ensures some { IfSome result (λ l. l.first ≤ l.last) }
         ensures passed { (g : Stage) (m d s : ℕ)
-            → IsPlace self.old.bounds self.old.rules self.old.cell g m d s
+            → IsSpot self.old.bounds self.old.rules self.old.cell g m d s
             → key self.old.stage self.old.m self.old.depth ≤ key g m d
             → MatchOption result ⊥ (λ l. (key g m d ≡ key l.stage l.m l.depth)
             ⊎ (key self.new.stage self.new.m self.new.depth ≤ key g m d)) }
@@ -256,19 +285,16 @@ impl Lines {
         None
     }
 
-    // To the next position. No place lies between.
+    // To the next position. No spot lies between.
     fn step(&mut self)
         requires { self.old.stage ≢ Stage.End }
         ensures bounds { self.new.bounds ≡ self.old.bounds }
         ensures rules { self.new.rules ≡ self.old.rules }
         ensures cell { self.new.cell ≡ self.old.cell }
-        ensures few { left self.new.bounds self.new.stage self.new.m self.new.depth
-            + width self.old.bounds self.old.stage
-            ≤ left self.old.bounds self.old.stage self.old.m self.old.depth }
         ensures later { key self.old.stage self.old.m self.old.depth
             < key self.new.stage self.new.m self.new.depth }
         ensures none { (g : Stage) (m d s : ℕ)
-            → IsPlace self.old.bounds self.old.rules self.old.cell g m d s
+            → IsSpot self.old.bounds self.old.rules self.old.cell g m d s
             → key self.old.stage self.old.m self.old.depth < key g m d
             → key self.new.stage self.new.m self.new.depth ≤ key g m d }
     {
@@ -290,12 +316,10 @@ impl Lines {
     {
         match self.stage {
             Stage::Single(_) | Stage::End => 1,
-            Stage::ProductFirst | Stage::ProductSecond | Stage::UuvFirst | Stage::UuvSecond => {
-                match self.cell {
-                    Cell::Ooa { m, .. } => self.bounds.m_max - m,
-                    Cell::Seq { .. } => 1,
-                }
-            }
+            Stage::First(_) | Stage::Second(_) => match self.cell {
+                Cell::Ooa { m, .. } => self.bounds.m_max - m,
+                Cell::Seq { .. } => 1,
+            },
         }
     }
 }

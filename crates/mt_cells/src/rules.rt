@@ -1,11 +1,15 @@
 //! Propagation rules.
-ghost use Rattle.std.specs.Prelude.{◌≡◌, true};
+ghost use Rattle.std.specs.Prelude.{◌≡◌, ◌+◌, ◌<◌, true, MatchOption};
+ghost use Rattle.mt_cells.specs.declared.rules.TheConstants.{RULES};
+ghost use Rattle.mt_cells.specs.Rules.{rule_index, is_pair_rule};
 ghost use Rattle.mt_cells.specs.declared.rules.Rule.{Rule};
 ghost use Rattle.mt_cells.specs.Instances.{has_rule};
 
 use std::fmt;
 
 /// A propagation rule: from a system of a parent, or of two, it makes one of its target.
+///
+/// The order of the rules is that of their instances.
 #[derive(Clone, Copy, PartialEq, Eq, Debug)]
 pub enum Rule {
     /// An array without its last coordinate.
@@ -58,20 +62,56 @@ impl fmt::Display for Rule {
     }
 }
 
+/// How many rules there are.
+pub const RULES: usize = 11;
+
+impl Rule {
+    // The index of the rule in the order of rules.
+    #[inline(always)]
+    pub(crate) fn index(self) -> usize
+        ensures value { result ≡ rule_index self }
+        ensures below { result < RULES }
+    {
+        self as usize
+    }
+
+    // Whether it has two parents.
+    #[inline(always)]
+    pub(crate) fn is_pair(self) -> bool
+        ensures { result ≡ is_pair_rule self }
+    {
+        match self {
+            Rule::Product | Rule::Uuv => true,
+            _ => false,
+        }
+    }
+
+    // The rule after it in the order of rules.
+    pub(crate) fn following(self) -> Option<Rule>
+        ensures { MatchOption result (rule_index self + 1 ≡ RULES)
+            (λ next. rule_index next ≡ rule_index self + 1) }
+    {
+        match self {
+            Rule::Fewer => Some(Rule::Shallower),
+            Rule::Shallower => Some(Rule::Deeper),
+            Rule::Deeper => Some(Rule::Longer),
+            Rule::Longer => Some(Rule::QuotientKeep),
+            Rule::QuotientKeep => Some(Rule::QuotientDrop),
+            Rule::QuotientDrop => Some(Rule::SeqFewer),
+            Rule::SeqFewer => Some(Rule::SeqCut),
+            Rule::SeqCut => Some(Rule::SeqToNet),
+            Rule::SeqToNet => Some(Rule::Product),
+            Rule::Product => Some(Rule::Uuv),
+            Rule::Uuv => None,
+        }
+    }
+}
+
 /// The rules that a table uses.
 #[derive(Clone, Copy, PartialEq, Eq, Debug)]
 pub struct RuleSet {
-    pub fewer: bool,
-    pub shallower: bool,
-    pub deeper: bool,
-    pub longer: bool,
-    pub quotient_keep: bool,
-    pub quotient_drop: bool,
-    pub seq_fewer: bool,
-    pub seq_cut: bool,
-    pub seq_to_net: bool,
-    pub product: bool,
-    pub uuv: bool,
+    // Of each rule, by its index, whether it is used.
+    pub(crate) used: [bool; RULES],
 }
 
 impl RuleSet {
@@ -80,17 +120,7 @@ impl RuleSet {
         ensures { (rule : Rule) → has_rule result rule ≡ true }
     {
         RuleSet {
-            fewer: true,
-            shallower: true,
-            deeper: true,
-            longer: true,
-            quotient_keep: true,
-            quotient_drop: true,
-            seq_fewer: true,
-            seq_cut: true,
-            seq_to_net: true,
-            product: true,
-            uuv: true,
+            used: [true; RULES],
         }
     }
 
@@ -98,18 +128,6 @@ impl RuleSet {
     pub fn has(self, rule: Rule) -> bool
         ensures { result ≡ has_rule self rule }
     {
-        match rule {
-            Rule::Fewer => self.fewer,
-            Rule::Shallower => self.shallower,
-            Rule::Deeper => self.deeper,
-            Rule::Longer => self.longer,
-            Rule::QuotientKeep => self.quotient_keep,
-            Rule::QuotientDrop => self.quotient_drop,
-            Rule::SeqFewer => self.seq_fewer,
-            Rule::SeqCut => self.seq_cut,
-            Rule::SeqToNet => self.seq_to_net,
-            Rule::Product => self.product,
-            Rule::Uuv => self.uuv,
-        }
+        self.used[rule.index()]
     }
 }

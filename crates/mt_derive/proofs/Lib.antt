@@ -1,5 +1,7 @@
 pub mod TreeLemmas
 pub mod AxiomLemmas
+pub mod WithinLemmas
+pub mod RuleLemmas
 pub mod SoundLemmas
 pub mod FormulaLemmas
 pub mod ExpansionLemmas

@@ -1,13 +1,10 @@
 -- A tree has at most one system.
-use Rattle.std.proofs.Common.{◌≡◌, ℕ, ◌+◌, ◌-◌, ◌*◌, ◌/◌, ◌%◌, ◌<◌, inl, inr, List, [], length, drop, get_or, slice_index, suc, refl, sym, ap, ap₂, ◌∙◌, subst, arith, get_or-take, get_or-drop}
-use Rattle.std.proofs.lemmas.Bool.{cases_order}
-use Rattle.std.proofs.lemmas.Grind.{same_number_lists}
-use Rattle.std.proofs.lemmas.Nat.{div_below, mod_below, div-add-mod'}
+use Rattle.std.proofs.Common.{◌≡◌, ℕ, ◌-◌, ◌<◌, List, [], get_or, refl, sym, ap, ◌∙◌, subst, arith}
 use Rattle.mt_linear.specs.declared.order.Order.{Order}
 use Rattle.mt_linear.specs.Field.{number_of}
 use Rattle.mt_linear.proofs.Abstract.{digit-injective}
 use Rattle.mt_system.specs.Rows.{Matrices, row_of}
-use Rattle.mt_system.specs.Digits.{digit_of, HasDigits}
+use Rattle.mt_system.specs.Digits.{digit_of}
 use Rattle.mt_system.specs.Statements.{Statement}
 use Rattle.mt_poly.specs.Polynomials.{IsMember}
 use Rattle.mt_poly.proofs.MemberLemmas.{monic_member, positive_member, list_members, list_unique}
@@ -16,63 +13,12 @@ use Rattle.mt_niederreiter.specs.Matrices.{IsMatricesOf}
 use Rattle.mt_niederreiter.proofs.Bridge.{row_lifted}
 use Rattle.mt_cells.specs.declared.cells.Cell.{Cell}
 use Rattle.mt_cells.specs.declared.cells.Cell.TheVariants.{Ooa, Seq}
-use Rattle.mt_cells.specs.declared.rules.Rule.{Rule}
-use Rattle.mt_cells.specs.declared.rules.Rule.TheVariants.{Fewer, Shallower, Deeper, Longer, QuotientKeep, QuotientDrop, SeqFewer, SeqCut, SeqToNet, Product, Uuv}
-use Rattle.mt_rules_basic.specs.Rules.{IsPivot, modulo_first, remaining_row, IsQuotientKeep, IsQuotientDrop}
 use Rattle.mt_derive.specs.Trees.{Axiom, zero_rows, constant, identity, parity, niederreiter, axiom_at, imported, one, two}
 use Rattle.mt_derive.specs.Systems.{IsWhole, IsAxiomSystem, IsRuleSystem, IsPairSystem}
 use Rattle.mt_derive.specs.Laws.{TreesHaveOneSystem}
 use Rattle.mt_derive.proofs.PlaceLemmas.{place_same}
-use Rattle.mt_derive.proofs.SoundLemmas.{row_elements}
-
--- ---- a whole system by its digits
-
--- a digit by its place
-digit_at : (a : Matrices) (k : ℕ) → IsWhole a → slice_index a.digits k ≡ digit_of a (k / a.columns / a.depth) (k / a.columns % a.depth) (k % a.columns)
-digit_at a k whole =
-    sym (get_or-take a.columns (drop ((k / a.columns / a.depth * a.depth + k / a.columns % a.depth) * a.columns) a.digits) (k % a.columns) 0
-    (mod_below k a.columns whole.columns_from)
-    ∙ get_or-drop ((k / a.columns / a.depth * a.depth + k / a.columns % a.depth) * a.columns) a.digits (k % a.columns) 0
-    ∙ ap (slice_index a.digits) (ap (λ n. n * a.columns + k % a.columns) (div-add-mod' (k / a.columns) a.depth) ∙ div-add-mod' k a.columns))
-
--- two with the digits f
-module _ (o : Order) (m s d : ℕ) (f : ℕ → ℕ → ℕ → ℕ) where
-  -- the digit at place k
-  digit_is : (a : Matrices) (k : ℕ) → IsWhole a → HasDigits a o m s d f → k < s * d * m → slice_index a.digits k ≡ f (k / m / d) (k / m % d) (k % m)
-  digit_is a k whole h l =
-      digit_at a k whole
-      ∙ ap₂ (λ x y. digit_of a (k / x / y) (k / x % y) (k % x)) h.columns h.depth
-      ∙ h.digits (k / m / d) (k / m % d) (k % m)
-      (div_below (k / m) d s deep (div_below k m (s * d) wide l))
-      (mod_below (k / m) d deep) (mod_below k m wide)
-    where
-      deep : 0 < d
-      deep = omega (arith, whole.depth_from, h.depth)
-
-      wide : 0 < m
-      wide = omega (arith, whole.columns_from, h.columns)
-
-  size_is : (a : Matrices) → IsWhole a → HasDigits a o m s d f → length a.digits ≡ s * d * m
-  size_is a whole h =
-      whole.size ∙ ap₂ (λ x y. x * y * a.columns) h.coordinates h.depth ∙ ap (λ x. s * d * x) h.columns
-
-  -- the system by its sizes and digits
-  made_of_digits : (a : Matrices) → HasDigits a o m s d f → a ≡ record { order = o; columns = m; coordinates = s; depth = d; digits = a.digits }
-  made_of_digits a h =
-      ap₂ (λ x y. record { order = x; columns = y; coordinates = a.coordinates; depth = a.depth; digits = a.digits }) h.order h.columns
-      ∙ ap₂ (λ x y. record { order = o; columns = m; coordinates = x; depth = y; digits = a.digits }) h.coordinates h.depth
-
-  -- are the same
-  same_system : (a b : Matrices) → IsWhole a → IsWhole b → HasDigits a o m s d f → HasDigits b o m s d f → a ≡ b
-  same_system a b whole also h g =
-      made_of_digits a h
-      ∙ ap (λ x. record { order = o; columns = m; coordinates = s; depth = d; digits = x }) digits
-      ∙ sym (made_of_digits b g)
-    where
-      digits : a.digits ≡ b.digits
-      digits = same_number_lists a.digits b.digits (size_is a whole h ∙ sym (size_is b also g)) (λ k l.
-          digit_is a k whole h (subst (λ n. k < n) (size_is a whole h) l)
-          ∙ sym (digit_is b k also g (subst (λ n. k < n) (size_is a whole h) l)))
+use Rattle.mt_derive.proofs.WithinLemmas.{row_elements, same_system}
+use Rattle.mt_derive.proofs.RuleLemmas.{rule_same, pair_same}
 
 -- ---- axioms
 
@@ -124,45 +70,6 @@ axiom_same niederreiter (Seq o m s) a b whole also h g = matrices_same o m s a b
 axiom_same niederreiter (Ooa o m s depth) a b whole also h g = absurd h
 axiom_same x (Seq o m s) a b whole also h g = absurd h
 
--- ---- rules
-
--- a row has one pivot
-pivot_same : (v : List ℕ) (x y : ℕ) → IsPivot v x → IsPivot v y → y ≡ x
-pivot_same v x y h g = elim (cases_order y x) [
-  | inl e ↦ e
-  | inr (inl l) ↦ absurd (g.not_zero (h.first y l))
-  | inr (inr l) ↦ absurd (h.not_zero (g.first x l))
-]
-
-keep_same : (p a b : Matrices) → IsWhole a → IsWhole b → IsQuotientKeep p a → IsQuotientKeep p b → a ≡ b
-keep_same p a b whole also (x, at, h) (y, pivot, g) =
-    same_system p.order (p.columns - 1) p.coordinates (p.depth - 1) (λ i j c. modulo_first p x i (remaining_row i j) c) a b whole also h
-    (subst (λ z. HasDigits b p.order (p.columns - 1) p.coordinates (p.depth - 1) (λ i j c. modulo_first p z i (remaining_row i j) c))
-    (pivot_same (row_of p 0 0) x y at pivot) g)
-
-drop_same : (p a b : Matrices) → IsWhole a → IsWhole b → IsQuotientDrop p a → IsQuotientDrop p b → a ≡ b
-drop_same p a b whole also (x, at, h) (y, pivot, g) =
-    same_system p.order (p.columns - 1) (p.coordinates - 1) p.depth (λ i j c. modulo_first p x (suc i) j c) a b whole also h
-    (subst (λ z. HasDigits b p.order (p.columns - 1) (p.coordinates - 1) p.depth (λ i j c. modulo_first p z (suc i) j c))
-    (pivot_same (row_of p 0 0) x y at pivot) g)
-
-rule_same : (r : Rule) (p a b : Matrices) → IsWhole a → IsWhole b → IsRuleSystem r p a → IsRuleSystem r p b → a ≡ b
-rule_same Fewer p a b whole also h g = same_system _ _ _ _ _ a b whole also h g
-rule_same Shallower p a b whole also h g = same_system _ _ _ _ _ a b whole also h g
-rule_same Deeper p a b whole also h g = same_system _ _ _ _ _ a b whole also h g
-rule_same Longer p a b whole also h g = same_system _ _ _ _ _ a b whole also h g
-rule_same QuotientKeep p a b whole also h g = keep_same p a b whole also h g
-rule_same QuotientDrop p a b whole also h g = drop_same p a b whole also h g
-rule_same SeqFewer p a b whole also h g = same_system _ _ _ _ _ a b whole also h g
-rule_same SeqCut p a b whole also h g = same_system _ _ _ _ _ a b whole also h g
-rule_same SeqToNet p a b whole also h g = same_system _ _ _ _ _ a b whole also h g
-rule_same r p a b whole also h g = absurd h
-
-pair_same : (r : Rule) (p q a b : Matrices) → IsWhole a → IsWhole b → IsPairSystem r p q a → IsPairSystem r p q b → a ≡ b
-pair_same Product p q a b whole also h g = same_system _ _ _ _ _ a b whole also h g
-pair_same Uuv p q a b whole also h g = same_system _ _ _ _ _ a b whole also h g
-pair_same r p q a b whole also h g = absurd h
-
 -- ---- trees
 
 -- a tree has at most one system, whatever the claims
@@ -171,10 +78,10 @@ trees_have_one_system L (axiom_at x c k) a b made other = axiom_same x c a b mad
 trees_have_one_system L (imported n) a b made other =
     let same : made.1 ≡ other.1 = place_same L (n - 1) made.1 other.1 made.2.1 other.2.1 in
     made.3 ∙ ap (λ (c : Statement). c.system) same ∙ sym other.3
-trees_have_one_system L (one r t) a b made other =
+trees_have_one_system L (one r c t) a b made other =
     let same : other.1 ≡ made.1 = trees_have_one_system L t other.1 made.1 other.2 made.2 in
     rule_same r made.1 a b made.0 other.0 made.3 (subst (λ p. IsRuleSystem r p b) same other.3)
-trees_have_one_system L (two r t u) a b made other =
+trees_have_one_system L (two r c t u) a b made other =
     let first : other.1 ≡ made.1 = trees_have_one_system L t other.1 made.1 other.3 made.3 in
     let second : other.2 ≡ made.2 = trees_have_one_system L u other.2 made.2 other.4 made.4 in
     pair_same r made.1 made.2 a b made.0 other.0 made.5

@@ -3,7 +3,8 @@ ghost use Rattle.std.specs.Prelude.{◌≡◌, ◌≢◌, ℕ, ◌<◌, ◌≤�
 ghost use Rattle.mt_derive.specs.Places.{IsAt};
 ghost use Rattle.mt_derive.specs.Nodes.{ShowsImports};
 ghost use Rattle.mt_derive.specs.Systems.{IsWhole};
-ghost use Rattle.mt_derive.specs.Built.{IsBuilt, IsKnown, AreKnown, ShowsImport, HasParentIn};
+ghost use Rattle.mt_derive.specs.Built.{IsBuilt};
+ghost use Rattle.mt_derive.specs.Ready.{IsKnown, AreKnown, ShowsImport, HasParentIn};
 
 use crate::imports::Imports;
 use crate::nodes::{Made, Nodes};

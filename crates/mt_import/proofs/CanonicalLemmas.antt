@@ -57,16 +57,16 @@ not_blank : (b : ℕ) → 32 < b → is_blank b ≡ false
 not_blank b l = rw (ne_eqb b 32 (λ e. omega arith), ne_eqb b 9 (λ e. omega arith)) refl
 
 -- at least one byte, and none of 32 or less
-record IsWord (word : List ℕ) : Type 0 where
-  some : 0 < length word
-  visible : All (λ b. 32 < b) word
+pub record IsWord (word : List ℕ) : Type 0 where
+  pub some : 0 < length word
+  pub visible : All (λ b. 32 < b) word
 
 -- nor are all bytes of a word
 not_blanks : (word : List ℕ) → All (λ b. 32 < b) word → All (λ b. is_blank b ≡ false) word
 not_blanks word visible = All-weaker (λ b. 32 < b) (λ b. is_blank b ≡ false) not_blank word visible
 
 -- words with single spaces between them are these words
-words_of-join : (words : List (List ℕ)) → All IsWord words → words_of (join_with_byte 32 words) ≡ words
+pub words_of-join : (words : List (List ℕ)) → All IsWord words → words_of (join_with_byte 32 words) ≡ words
 words_of-join [] h = refl
 words_of-join (w ∷ []) h = let word = All-head IsWord w [] h in words_of-last w word.some (not_blanks w word.visible)
 words_of-join ([] ∷ v ∷ ws) h = let some = (All-head IsWord [] (v ∷ ws) h).some in absurd (omega arith)
@@ -79,7 +79,7 @@ over_thirteen : (word : List ℕ) → All (λ b. 32 < b) word → All (λ b. 13 
 over_thirteen word visible = All-weaker (λ b. 32 < b) (λ b. 13 < b) (λ b l. omega arith) word visible
 
 -- so are those of words with single spaces between them
-All-join : (words : List (List ℕ)) → All IsWord words → All (λ b. 13 < b) (join_with_byte 32 words)
+pub All-join : (words : List (List ℕ)) → All IsWord words → All (λ b. 13 < b) (join_with_byte 32 words)
 All-join [] h = All-nil (λ b. 13 < b)
 All-join (w ∷ []) h = over_thirteen w (All-head IsWord w [] h).visible
 All-join (w ∷ v ∷ ws) h =
@@ -95,7 +95,7 @@ without_return-same (b ∷ []) h = let over : 13 < b = All-head (λ b. 13 < b) b
 without_return-same (b ∷ c ∷ bs) h = ap (λ (line : List ℕ). b ∷ line) (without_return-same (c ∷ bs) (All-tail (λ b. 13 < b) b (c ∷ bs) h))
 
 -- such bytes up to a line feed are the first line
-lines_of-line : (line rest : List ℕ) → All (λ b. 13 < b) line → lines_of (line ++ 10 ∷ rest) ≡ line ∷ lines_of rest
+pub lines_of-line : (line rest : List ℕ) → All (λ b. 13 < b) line → lines_of (line ++ 10 ∷ rest) ≡ line ∷ lines_of rest
 lines_of-line line rest h =
     ap (map without_return) (pieces_of-line line rest (All-weaker (λ b. 13 < b) (λ b. b ≢ 10) (λ b l e. omega arith) line h))
     ∙ ap (λ (first : List ℕ). first ∷ lines_of rest) (without_return-same line h)
@@ -245,7 +245,7 @@ visible_in_names b h =
     omega arith
 
 -- names are words
-IsWord-name : (name : List ℕ) → IsName name → IsWord name
+pub IsWord-name : (name : List ℕ) → IsName name → IsWord name
 IsWord-name name is = record { some = is.some; visible = All-weaker (Contains name_characters) (λ b. 32 < b) visible_in_names name is.characters }
 
 -- a header has words alone

@@ -85,9 +85,25 @@ row_lacks text h note n source rows others r b full =
     let each : All (IsRow r.header.q r.header.m) rows = subst (λ (x : Header). All (IsRow x.q x.m) rows) start.header b.each in
     no_row_goes_on r.header.q r.header.m r.others r.refused (goes_on (IsRow r.header.q r.header.m) r.rows rows r.others others (omega (arith, r.fewer)) (sym start.lines) each)
 
-at_cut : (P : List ℕ → Type 0) (xs : Lines) (y : List ℕ) (ys : Lines) → All P (xs ++ y ∷ ys) → P y
+pub at_cut : (P : List ℕ → Type 0) (xs : Lines) (y : List ℕ) (ys : Lines) → All P (xs ++ y ∷ ys) → P y
 at_cut P [] y ys h = All-head P y ys h
 at_cut P (x ∷ xs) y ys h = at_cut P xs y ys (All-tail P x (xs ++ y ∷ ys) h)
+
+-- of two lines without a property, each behind lines that have it, none is the later one
+not_later : (P : List ℕ → Type 0) (xs ys zs ws : Lines) (x y : List ℕ) → xs ++ x ∷ zs ≡ ys ++ y ∷ ws → All P ys → ¬ P x → length xs < length ys → ⊥
+not_later P xs ys zs ws x y e has none l =
+    let on = goes_on P xs ys (x ∷ zs) (y ∷ ws) l e has in
+    let is = on.is in
+    let same : on.line ≡ x = cc in
+    none (subst P same on.holds)
+
+pub same_mark : (P : List ℕ → Type 0) (xs ys zs ws : Lines) (x y : List ℕ) → xs ++ x ∷ zs ≡ ys ++ y ∷ ws → All P xs → All P ys → ¬ P x → ¬ P y → length xs ≡ length ys
+same_mark P xs ys zs ws x y e has more none other =
+    elim (cases_order (length xs) (length ys)) [
+      | inl same ↦ same
+      | inr (inl l) ↦ absurd (not_later P xs ys zs ws x y e more none l)
+      | inr (inr l) ↦ absurd (not_later P ys xs ws zs y x (sym e) has other l)
+    ]
 
 pub not_both : (text : List ℕ) (h : Header) (note digits : List ℕ) (refused : FormRefused) → IsImport text h note digits → IsRefusal text refused → ⊥
 not_both text h note digits TooLong a r = omega (arith, a.begins.few)
@@ -128,24 +144,14 @@ module _ (text : List ℕ) (n k : ℕ) (r : IsRefusedEnd text n) (s : IsRefusedE
       let start = same_start text r.header s.header r.note s.note r.source s.source r.rows (r.blanks ++ r.last ∷ r.others) s.rows (s.blanks ++ s.last ∷ s.others) r.begins s.begins in
       r.number ∙ ap (λ (x : Header). x.s * x.depth) start.header ∙ sym s.number
 
-  end_later : length r.blanks < length s.blanks → ⊥
-  end_later l =
-      let start = same_start text r.header s.header r.note s.note r.source s.source r.rows (r.blanks ++ r.last ∷ r.others) s.rows (s.blanks ++ s.last ∷ s.others) r.begins s.begins in
-      let rest = (same_cut r.rows s.rows (r.blanks ++ r.last ∷ r.others) (s.blanks ++ s.last ∷ s.others) same_size start.lines).1 in
-      let on = goes_on IsBlankLine r.blanks s.blanks (r.last ∷ r.others) (s.last ∷ s.others) l rest s.blank in
-      let is = on.is in
-      let last : on.line ≡ r.last = cc in
-      r.refused (subst IsBlankLine last on.holds)
-
 end_end : (text : List ℕ) (n k : ℕ) → IsRefusedEnd text n → IsRefusedEnd text k → n ≡ k
 end_end text n k r s =
     let start = same_start text r.header s.header r.note s.note r.source s.source r.rows (r.blanks ++ r.last ∷ r.others) s.rows (s.blanks ++ s.last ∷ s.others) r.begins s.begins in
     let source : length r.source ≡ length s.source = ap (λ (source : Lines). length source) start.source_is in
-    elim (cases_order (length r.blanks) (length s.blanks)) [
-      | inl e ↦ r.line ∙ (let size = same_size text n k r s in let same : length r.source + length r.rows + length r.blanks + 2 ≡ length s.source + length s.rows + length s.blanks + 2 = omega arith in same) ∙ sym s.line
-      | inr (inl l) ↦ absurd (end_later text n k r s l)
-      | inr (inr l) ↦ absurd (end_later text k n s r l)
-    ]
+    let size = same_size text n k r s in
+    let rest = (same_cut r.rows s.rows (r.blanks ++ r.last ∷ r.others) (s.blanks ++ s.last ∷ s.others) size start.lines).1 in
+    let blanks = same_mark IsBlankLine r.blanks s.blanks r.others s.others r.last s.last rest r.blank s.blank r.refused s.refused in
+    r.line ∙ (let same : length r.source + length r.rows + length r.blanks + 2 ≡ length s.source + length s.rows + length s.blanks + 2 = omega arith in same) ∙ sym s.line
 
 row_end : (text : List ℕ) (n k : ℕ) → IsRefusedRow text n → IsRefusedEnd text k → ⊥
 row_end text n k r s = row_lacks text s.header s.note n s.source s.rows (s.blanks ++ s.last ∷ s.others) r s.begins s.number

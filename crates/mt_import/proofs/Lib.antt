@@ -6,3 +6,5 @@ mod RowLemmas
 mod SourceLemmas
 mod ReadingLemmas
 mod LawLemmas
+mod WithdrawalLemmas
+mod EventLemmas

@@ -6,4 +6,8 @@ pub mod Texts
 pub mod Canonical
 pub mod SourceAnswers
 pub mod Reading
+pub mod Withdrawals
+pub mod Events
+pub mod EventReading
 pub mod Laws
+pub mod EventLaws

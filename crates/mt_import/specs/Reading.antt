@@ -44,13 +44,13 @@ pub record HasRows (h : Header) (text : List ℕ) : Type 0 where
   pub each : All (IsRow h.q h.m) (row_lines h text)
 
 -- what an import text says
-pub record Said : Type 0 where
+pub record Contents : Type 0 where
   pub header : Header
   pub note : List ℕ
   pub digits : List ℕ
 
 -- by this header, this note and a text that begins with the rows of the header
-abbrev pub said_by : Header → List ℕ → List ℕ → Said
+abbrev pub said_by : Header → List ℕ → List ℕ → Contents
 said_by h note text = record { header = h; note = note; digits = flat_map digits_of (row_lines h text) }
 
 -- so many rows, with the rest behind them

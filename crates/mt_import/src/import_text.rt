@@ -33,9 +33,9 @@ pub struct ImportText<'a> {
 }
 
 impl<'a> Model for ImportText<'a> {
-    ghost use Rattle.mt_import.specs.Reading.{Said, HasRows, said_by};
+    ghost use Rattle.mt_import.specs.Reading.{Contents, HasRows, said_by};
 
-    ghost Value = { Said };
+    ghost Value = { Contents };
 
     ghost view = { λ t. said_by t.header t.note t.rows.now };
 
@@ -221,8 +221,8 @@ fn split_row<'a>(
     Ok((row, behind))
 }
 
-// Whether all lines are blank. The first has this number.
-fn read_end(text: &[u8], first: u32) -> Result<(), FormRefused>
+/// Whether all lines are blank. The first has this number.
+pub fn read_end(text: &[u8], first: u32) -> Result<(), FormRefused>
     requires short { length text.now ≤ MOST_BYTES }
     requires small { first < 2000000 }
     ensures { MatchResult result (λ _. All IsBlankLine (lines_of text.now))

@@ -14,7 +14,7 @@ pub enum Wanted {
     Source,
     /// A row.
     Row,
-    /// A line of blanks, behind the rows.
+    /// A line of blanks, behind the rows or behind a line that withdraws a name.
     Blank,
 }
 
@@ -29,7 +29,7 @@ impl fmt::Display for Wanted {
     }
 }
 
-/// Why a text is no import text.
+/// Why a text is no import text, or no event.
 #[derive(Clone, Copy, PartialEq, Eq, Debug, Error)]
 pub enum FormRefused {
     /// It has more than [`MOST_BYTES`](crate::MOST_BYTES) bytes.
@@ -40,10 +40,10 @@ pub enum FormRefused {
     Line { line: u32, wanted: Wanted },
 }
 
-/// Why no claim was read.
+/// Why no claim, or no event, was read.
 #[derive(Debug, Drop, Error)]
 pub enum ImportRefused {
-    /// The text is no import text.
+    /// The text is no import text, or no event.
     #[error("{0}")]
     Form(FormRefused),
     /// Want of memory.

@@ -1,7 +1,12 @@
 //! Small texts.
-ghost use Rattle.std.specs.Prelude.{◌<◌};
+ghost use Rattle.std.specs.Prelude.{◌≡◌, ◌<◌, IsTrue};
+ghost use Rattle.mt_import.specs.declared.headers.Header.{Header};
+ghost use Rattle.mt_import.specs.Texts.{HasHeader};
 
-use crate::{FormRefused, ImportText, Wanted, in_grammar, print_import, read_header};
+use crate::{
+    EventText, FormRefused, ImportText, Said, Wanted, in_event_grammar, in_grammar, print_import,
+    print_withdraw, read_event, read_header, withdraws,
+};
 use mt_linear::Order;
 use mt_system::{Claim, Form, Name, Note, System};
 use std::alloc::Global;
@@ -147,5 +152,99 @@ fn prints_claims(rt: HostRuntime) -> Result<(), Fail> {
         text.as_slice(),
         b"seq 9 2 1 0 a-b_c.0\n85\n01\n".as_slice()
     );
+    Ok(())
+}
+
+#[test]
+fn reads_withdrawals(rt: HostRuntime) -> Result<(), Fail> {
+    let alloc = rt.alloc();
+    let name = Name::of(b"caps7").ok_or("name")?;
+    let text = print_withdraw(alloc, name)?;
+    assert_eq!(rt; text.as_slice(), b"withdraw caps7\n".as_slice());
+    let taken: [&[u8]; 3] = [
+        b"withdraw caps7\n",
+        b" withdraw\t caps7 \r\n\r\n \t",
+        b"withdraw caps7",
+    ];
+    for text in taken {
+        assert!(rt; withdraws(text) == Some(name));
+        assert_eq!(rt; in_event_grammar(text), Ok(()));
+        let Ok(event) = EventText::of(text) else {
+            return Err("refused".into());
+        };
+        let EventText::Withdraw(found) = event else {
+            return Err("no withdrawal".into());
+        };
+        assert!(rt; found == name);
+    }
+    let none: [&[u8]; 3] = [b"ooa 2 2 1 1 2 one\n10\n", b"", b"withdrawn caps7\n"];
+    for text in none {
+        assert!(rt; withdraws(text).is_none());
+    }
+    Ok(())
+}
+
+#[test]
+fn refuses_the_first_line_of_an_event(rt: HostRuntime) -> Result<(), Fail> {
+    let cases: [(&[u8], u32, Wanted); 8] = [
+        (b"withdraw\n", 1, Wanted::Header),
+        (b"withdraw two names\n", 1, Wanted::Header),
+        (b"withdraw Caps7\nx\n", 1, Wanted::Header),
+        (b"withdrawn caps7\n", 1, Wanted::Header),
+        (b"\nwithdraw caps7\n", 1, Wanted::Header),
+        (b"withdraw caps7\n\nx\ny", 3, Wanted::Blank),
+        (b"withdraw caps7\nwithdraw caps7\n", 2, Wanted::Blank),
+        (b"ooa 2 2 1 1 1 bad\n12\n", 2, Wanted::Row),
+    ];
+    for (text, line, wanted) in cases {
+        assert_eq!(rt;
+            in_event_grammar(text),
+            Err(FormRefused::Line { line, wanted })
+        );
+        assert!(rt; withdraws(text).is_none());
+    }
+    let refused = FormRefused::Line {
+        line: 1,
+        wanted: Wanted::Header,
+    };
+    assert_eq!(rt; in_grammar(b"withdraw caps7\nx\n"), Err(refused));
+    Ok(())
+}
+
+// Whether the sizes of the header on line 1 are below 256, where there is one.
+fn is_small(text: &[u8]) -> bool
+    ensures { IsTrue result → (h : Header) → HasHeader text.now h → (h.m < 256) × (h.s < 256) × (h.depth < 256) }
+{
+    let Some(header) = read_header(text) else {
+        return true;
+    };
+    if header.m > 255 || header.s > 255 || header.depth > 255 {
+        return false;
+    }
+    true
+}
+
+// What the text of an event says.
+fn event_of(alloc: Global, text: &[u8]) -> Result<Said, Fail> {
+    if !is_small(text) {
+        return Err("sizes".into());
+    }
+    match read_event(alloc, text) {
+        Ok(said) => Ok(said),
+        Err(_) => Err("refused".into()),
+    }
+}
+
+#[test]
+fn reads_events(rt: HostRuntime) -> Result<(), Fail> {
+    let alloc = rt.alloc();
+    let Said::Withdraw(name) = event_of(alloc, b"withdraw one\n")? else {
+        return Err("no withdrawal".into());
+    };
+    assert_eq!(rt; name.bytes(), b"one".as_slice());
+    let Said::Claim(claim) = event_of(alloc, b"ooa 2 2 1 1 2 one\n10\n")? else {
+        return Err("no claim".into());
+    };
+    assert!(rt; claim.name == name);
     Ok(())
 }

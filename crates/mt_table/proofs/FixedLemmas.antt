@@ -1,4 +1,4 @@
--- Values of axioms, settled, are the greatest.
+-- Values of axioms, propagated, are the greatest.
 use Rattle.std.proofs.Common.{◌≡◌, ℕ, ◌+◌, ◌≤◌, List, [], refl, arith, le_trans, add-one}
 use Rattle.mt_cells.specs.declared.cells.Cell.{Cell}
 use Rattle.mt_cells.specs.Cells.{InBounds, number, cells_of}
@@ -13,14 +13,14 @@ use Rattle.mt_derive.specs.Axioms.{IsBestAxiom}
 use Rattle.mt_derive.specs.Imports.{entries_of}
 use Rattle.mt_derive.specs.Nodes.{IsTreeOf}
 use Rattle.mt_derive.specs.Places.{IsAt}
-use Rattle.mt_table.specs.Works.{value_in, place_in, AreAxioms, AllShown, Settles}
+use Rattle.mt_table.specs.Works.{value_in, place_in, AreAxioms, AllShown, Propagates}
 use Rattle.mt_table.specs.Fixed.{IsFixed}
 use Rattle.mt_system.specs.Statements.{Statement}
 use Rattle.mt_table.specs.Tables.{IsServed}
 use Rattle.mt_table.proofs.NodeLemmas.{Holds, cell_node, shown_tree, value_within}
 use Rattle.mt_table.proofs.StartLemmas.{axioms_shown}
 
-pub fixed : (v w : Work) → AreAxioms v.bounds v.nodes.list v.values.items v.places.items (cells_of v.bounds) → Settles v w → IsFixed w []
+pub fixed : (v w : Work) → AreAxioms v.bounds v.nodes.list v.values.items v.places.items (cells_of v.bounds) → Propagates v w → IsFixed w []
 fixed v w a s = record {
   values = λ c h. IsValue-closed w.bounds w.rules [] (value_in w) closed c (reached c h).0 (reached c h).2;
   shown = shown;

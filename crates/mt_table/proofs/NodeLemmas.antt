@@ -10,13 +10,14 @@ use Rattle.mt_cells.specs.declared.cells.Cell.{Cell}
 use Rattle.mt_cells.specs.declared.rules.Rule.{Rule}
 use Rattle.mt_cells.specs.declared.instances.Instance.{Instance}
 use Rattle.mt_cells.specs.Cells.{InBounds, columns_of, number, cells_of}
-use Rattle.mt_cells.specs.Instances.{has_rule, IsInstance, Leads, conclusion_by, conclusion_of}
-use Rattle.mt_cells.specs.Places.{second_or}
+use Rattle.mt_cells.specs.Instances.{IsInstance, Leads, conclusion_by, conclusion_of}
+use Rattle.mt_cells.specs.Instances.{second_or}
 use Rattle.mt_derive.specs.Closed.{second_of}
-use Rattle.mt_derive.specs.Trees.{Entry, Tree, one, two, Concludes}
+use Rattle.mt_derive.specs.Trees.{Entry, Tree, one, two, step, Concludes}
 use Rattle.mt_cells.proofs.CellLemmas.{number_below, number_apart}
-use Rattle.mt_cells.proofs.PlaceLemmas.{inside}
-use Rattle.mt_derive.proofs.TreeLemmas.{conclusion_within, pair_within, conclusion_least, one_concluded, two_concluded}
+use Rattle.mt_cells.proofs.SpotLemmas.{inside}
+use Rattle.mt_cells.proofs.RuleLemmas.{conclusion_within, conclusion_least, pair_least_parent}
+use Rattle.mt_derive.proofs.TreeLemmas.{one_concluded, two_concluded}
 use Rattle.mt_derive.specs.declared.nodes.Node.{Node}
 use Rattle.mt_derive.specs.Concluded.{IsConcluded}
 use Rattle.mt_derive.specs.Nodes.{IsRight, IsRightBy, IsTreeOf, NodeList, no_node}
@@ -55,9 +56,8 @@ right_by v r t p None k h leads e l =
       record {
         bounds = v.bounds;
         inside = rw parent.2 h;
-        leads = rw parent.2 leads.0;
+        leads = rw parent.2 leads;
         least = rw parent.3 (conclusion_least r p (value_in v p) (rw e at l));
-        cell = rw parent.2 leads.1;
         k = rw (parent.2, parent.3) e;
       },
     )
@@ -70,10 +70,9 @@ right_by v r t p (Some q) k h leads e l =
       second.1,
       record {
         bounds = v.bounds;
-        first_inside = rw first.2 h;
-        second_inside = rw second.2 leads.0;
-        leads = rw (first.2, second.2) leads.1;
-        cell = rw (first.2, second.2) leads.2;
+        inside = rw first.2 h;
+        leads = rw (first.2, second.2) leads;
+        least = rw (pair_least_parent v.bounds r p q leads.1) (omega arith);
         k = rw (first.2, second.2, first.3, second.3) e;
       },
     )
@@ -87,28 +86,28 @@ shown_tree v L n c k all (node, at, cell, value) =
     let x : IsConcluded v.bounds v.rules L v.nodes.list n node = all n node at in
     (x.tree, x.unfolds, (x.concludes.0, x.concludes.1 ∙ cell, x.concludes.2 ∙ value))
 
-tree_by : (v : Work) (L : List Entry) (r : Rule) (t p : Cell) (q : Option Cell) (k : ℕ) (node : Node) → AllShown v L → has_rule v.rules r ≡ true → InBounds v.bounds p → Leads v.bounds r t p q
+tree_by : (v : Work) (L : List Entry) (r : Rule) (t p : Cell) (q : Option Cell) (k : ℕ) (node : Node) → AllShown v L → IsInstance v.bounds v.rules (step r t p q)
     → k ≡ conclusion_by r p q (value_in v p) (value_in v (second_or p q)) → 0 < k → node.made ≡ made_by r q (place_in v p) (place_in v (second_or p q)) → node.cell ≡ t → node.k ≡ k
     → IsConcluded v.bounds v.rules L (v.nodes.list ++ node ∷ []) (length v.nodes.list) node
-tree_by v L r t p None k node all c h leads e l made cell value =
-    let first : (t : Tree) × IsTreeOf v.nodes.list (place_in v p) t × Concludes v.bounds v.rules L t p (value_in v p) = shown_tree v L (place_in v p) p (value_in v p) all (cell_node v p h) in
+tree_by v L r t p None k node all h e l made cell value =
+    let first : (t : Tree) × IsTreeOf v.nodes.list (place_in v p) t × Concludes v.bounds v.rules L t p (value_in v p) = shown_tree v L (place_in v p) p (value_in v p) all (cell_node v p h.first) in
     record {
-      tree = one r first.0;
-      unfolds = (node, place_last v.nodes.list node, place_in v p, made, tree_longer v.nodes.list (node ∷ []) (place_in v p) first.0 first.1);
-      concludes = rw (cell, value, e) (one_concluded v.bounds v.rules L r t p c h leads first.0 (value_in v p) first.2 (rw e at l));
+      tree = one r t first.0;
+      unfolds = (node, place_last v.nodes.list node, place_in v p, made, cell, tree_longer v.nodes.list (node ∷ []) (place_in v p) first.0 first.1);
+      concludes = rw (cell, value, e) (one_concluded v.bounds v.rules L r t p h first.0 (value_in v p) first.2 (rw e at l));
     }
-tree_by v L r t p (Some q) k node all c h leads e l made cell value =
-    let first : (t : Tree) × IsTreeOf v.nodes.list (place_in v p) t × Concludes v.bounds v.rules L t p (value_in v p) = shown_tree v L (place_in v p) p (value_in v p) all (cell_node v p h) in
-    let second : (t : Tree) × IsTreeOf v.nodes.list (place_in v q) t × Concludes v.bounds v.rules L t q (value_in v q) = shown_tree v L (place_in v q) q (value_in v q) all (cell_node v q leads.0) in
+tree_by v L r t p (Some q) k node all h e l made cell value =
+    let first : (t : Tree) × IsTreeOf v.nodes.list (place_in v p) t × Concludes v.bounds v.rules L t p (value_in v p) = shown_tree v L (place_in v p) p (value_in v p) all (cell_node v p h.first) in
+    let second : (t : Tree) × IsTreeOf v.nodes.list (place_in v q) t × Concludes v.bounds v.rules L t q (value_in v q) = shown_tree v L (place_in v q) q (value_in v q) all (cell_node v q h.leads.0) in
     record {
-      tree = two r first.0 second.0;
-      unfolds = (node, place_last v.nodes.list node, place_in v p, place_in v q, made, tree_longer v.nodes.list (node ∷ []) (place_in v p) first.0 first.1, tree_longer v.nodes.list (node ∷ []) (place_in v q) second.0 second.1);
-      concludes = rw (cell, value, e) (two_concluded v.bounds v.rules L r t p q c h leads first.0 second.0 (value_in v p) (value_in v q) first.2 second.2);
+      tree = two r t first.0 second.0;
+      unfolds = (node, place_last v.nodes.list node, place_in v p, place_in v q, made, cell, tree_longer v.nodes.list (node ∷ []) (place_in v p) first.0 first.1, tree_longer v.nodes.list (node ∷ []) (place_in v q) second.0 second.1);
+      concludes = rw (cell, value, e) (two_concluded v.bounds v.rules L r t p q h first.0 second.0 (value_in v p) (value_in v q) first.2 second.2);
     }
 
 pub node_concludes : (v : Work) (i : Instance) (k : ℕ) → IsInstance v.bounds v.rules i → k ≡ conclusion_of i (value_in v i.first) (value_in v (second_of i)) → 0 < k
     → (L : List Entry) → AllShown v L → IsConcluded v.bounds v.rules L (v.nodes.list ++ node_by v i k ∷ []) (length v.nodes.list) (node_by v i k)
-node_concludes v i k h e l L all = tree_by v L i.rule i.target i.first i.second k (node_by v i k) all h.configured h.first h.leads e l refl refl refl
+node_concludes v i k h e l L all = tree_by v L i.rule i.target i.first i.second k (node_by v i k) all h e l refl refl refl
 
 -- the cells keep their nodes, and the target has the new one
 pub placed_raised : (b : Bounds) (nodes : List Node) (places values : List ℕ) (node : Node) (c : Cell) (k : ℕ) → InBounds b c → node.cell ≡ c → node.k ≡ k
@@ -175,11 +174,14 @@ pub value_within : (v : Work) (c : Cell) → InBounds v.bounds c → value_in v 
 value_within v c h = ∥∥₁_elim v.roomy le_prop (λ r. rw (r.are.each c h (number_below v.bounds c h)) at (r.low (number v.bounds c)))
 
 low_by : (v : Work) (r : Rule) (t p : Cell) (q : Option Cell) → InBounds v.bounds p → Leads v.bounds r t p q → conclusion_by r p q (value_in v p) (value_in v (second_or p q)) ≤ columns_of t
-low_by v r t p None h leads = rw leads.1 (conclusion_within v.bounds r p (value_in v p) leads.0 (value_within v p h))
-low_by v r t p (Some q) h leads = rw leads.2 (pair_within v.bounds r p q (value_in v p) (value_in v q) leads.1 (value_within v q leads.0))
+low_by v r t p q h leads = conclusion_within v.bounds r t p q (value_in v p) (value_in v (second_or p q)) leads (value_within v p h) (within q leads)
+  where
+    within : (q : Option Cell) → Leads v.bounds r t p q → value_in v (second_or p q) ≤ columns_of (second_or p q)
+    within None l = value_within v p h
+    within (Some c) l = value_within v c l.0
 
-pub conclusion_low : (v : Work) (i : Instance) (k : ℕ) → IsInstance v.bounds v.rules i → k ≡ conclusion_of i (value_in v i.first) (value_in v (second_of i)) → k ≤ columns_of i.target
-conclusion_low v i k h e = rw e (low_by v i.rule i.target i.first i.second h.first h.leads)
+pub conclusion_fits : (v : Work) (i : Instance) (k : ℕ) → IsInstance v.bounds v.rules i → k ≡ conclusion_of i (value_in v i.first) (value_in v (second_of i)) → k ≤ columns_of i.target
+conclusion_fits v i k h e = rw e (low_by v i.rule i.target i.first i.second h.first h.leads)
 
 -- ---- flags
 

@@ -8,15 +8,15 @@ use Rattle.mt_cells.specs.declared.cells.Cell.{Cell}
 use Rattle.mt_cells.specs.declared.instances.Instance.{Instance}
 use Rattle.mt_cells.specs.Cells.{InBounds, number, cells_of}
 use Rattle.mt_cells.specs.Instances.{IsInstance, HasParent, conclusion_of}
-use Rattle.mt_cells.specs.Places.{second_or}
+use Rattle.mt_cells.specs.Instances.{second_or}
 use Rattle.mt_derive.specs.Closed.{second_of, IsDone}
 use Rattle.mt_derive.specs.Trees.{Entry}
 use Rattle.mt_cells.proofs.CellLemmas.{number_below, number_apart}
-use Rattle.mt_cells.proofs.PlaceLemmas.{inside}
+use Rattle.mt_cells.proofs.SpotLemmas.{inside}
 use Rattle.mt_derive.proofs.ConcludedLemmas.{conclude_push}
 use Rattle.mt_table.specs.declared.work.Work.{Work}
 use Rattle.mt_table.specs.Shapes.{sum_of}
-use Rattle.mt_table.specs.Works.{value_in, AllShown, AllDone, IsFlagged, IsIdle, IsSettled, AllSettled, waiting, Grows, node_by, IsRaised, IsTaken, IsOver, Rises, Settles}
+use Rattle.mt_table.specs.Works.{value_in, AllShown, AllDone, IsFlagged, IsIdle, IsPropagated, AllPropagated, waiting, Grows, node_by, IsRaised, IsTaken, IsOver, Rises, Propagates}
 use Rattle.mt_table.proofs.NodeLemmas.{node_concludes}
 
 -- ---- growth
@@ -38,17 +38,17 @@ grows_trans u v w a b = record {
   shown = λ L h. b.shown L (a.shown L h);
 }
 
--- a settled instance stays settled
-pub settled_grows : (v w : Work) (i : Instance) → Grows v w → IsSettled v i → IsSettled w i
-settled_grows v w i g (inl d) = rw g.bounds (⊎_elim
+-- a propagated instance stays propagated
+pub propagated_grows : (v w : Work) (i : Instance) → Grows v w → IsPropagated v i → IsPropagated w i
+propagated_grows v w i g (inl d) = rw g.bounds (⊎_elim
     (λ (e : get_or w.values.items (number v.bounds i.first) 0 ≡ value_in v i.first). ⊎_elim
     (λ (f : get_or w.values.items (number v.bounds (second_of i)) 0 ≡ value_in v (second_of i)). inl (rw (e, f) (le_trans d (g.values (number v.bounds i.target)))))
     (λ (f : get_or w.flags.items (number v.bounds (second_of i)) false ≡ true). inr (inr f))
     (g.changed (number v.bounds (second_of i))))
     (λ (e : get_or w.flags.items (number v.bounds i.first) false ≡ true). inr (inl e))
     (g.changed (number v.bounds i.first)))
-settled_grows v w i g (inr (inl f)) = rw g.bounds (inr (inl (g.flags _ f)))
-settled_grows v w i g (inr (inr f)) = rw g.bounds (inr (inr (g.flags _ f)))
+propagated_grows v w i g (inr (inl f)) = rw g.bounds (inr (inl (g.flags _ f)))
+propagated_grows v w i g (inr (inr f)) = rw g.bounds (inr (inr (g.flags _ f)))
 
 -- ---- a raise
 
@@ -104,9 +104,9 @@ grows_raised v w i j g k h ej eg ek l r = record {
     t : InBounds v.bounds i.target
     t = (inside v.bounds v.rules i h).0
 
--- the instance that raised its target is settled, also where the target is a parent
-pub settled_raised : (v w : Work) (i : Instance) (j g k : ℕ) → IsInstance v.bounds v.rules i → j ≡ value_in v i.first → g ≡ value_in v (second_of i) → k ≡ conclusion_of i j g → IsRaised v w i k → IsSettled w i
-settled_raised v w i j g k h ej eg ek r = rw r.bounds (⊎_elim
+-- the instance that raised its target is propagated, also where the target is a parent
+pub propagated_raised : (v w : Work) (i : Instance) (j g k : ℕ) → IsInstance v.bounds v.rules i → j ≡ value_in v i.first → g ≡ value_in v (second_of i) → k ≡ conclusion_of i j g → IsRaised v w i k → IsPropagated w i
+propagated_raised v w i j g k h ej eg ek r = rw r.bounds (⊎_elim
     (λ (e : number v.bounds i.first ≡ number v.bounds i.target). inr (inl (rw e (raised_flag v w i k t r))))
     (λ (ne : number v.bounds i.first ≢ number v.bounds i.target). ⊎_elim
     (λ (e : number v.bounds (second_of i) ≡ number v.bounds i.target). inr (inr (rw e (raised_flag v w i k t r))))
@@ -118,8 +118,8 @@ settled_raised v w i j g k h ej eg ek r = rw r.bounds (⊎_elim
     t = (inside v.bounds v.rules i h).0
 
 -- an instance whose conclusion is not above its target's value is done
-pub settled_low : (v : Work) (i : Instance) (j g k : ℕ) → j ≡ value_in v i.first → g ≡ value_in v (second_of i) → k ≡ conclusion_of i j g → k ≤ value_in v i.target → IsSettled v i
-settled_low v i j g k ej eg ek l = inl (rw (ek, ej, eg) at l)
+pub propagated_low : (v : Work) (i : Instance) (j g k : ℕ) → j ≡ value_in v i.first → g ≡ value_in v (second_of i) → k ≡ conclusion_of i j g → k ≤ value_in v i.target → IsPropagated v i
+propagated_low v i j g k ej eg ek l = inl (rw (ek, ej, eg) at l)
 
 -- ---- a cell that is taken out
 
@@ -128,8 +128,8 @@ second_parent f c None e = inl e
 second_parent f c (Some y) e = inr (ap (λ (x : Cell). Some x) e)
 
 -- after a cell was taken out and all its instances were tried
-pub settled_after : (v u w : Work) (c : Cell) (n : ℕ) → IsTaken v u n → InBounds u.bounds c → number u.bounds c ≡ n → AllSettled v → Grows u w → ((i : Instance) → IsInstance u.bounds u.rules i → HasParent c i → IsSettled w i) → AllSettled w
-settled_after v u w c n t h en all g tried i k = go (all i kv)
+pub propagated_after : (v u w : Work) (c : Cell) (n : ℕ) → IsTaken v u n → InBounds u.bounds c → number u.bounds c ≡ n → AllPropagated v → Grows u w → ((i : Instance) → IsInstance u.bounds u.rules i → HasParent c i → IsPropagated w i) → AllPropagated w
+propagated_after v u w c n t h en all g tried i k = go (all i kv)
   where
     ku : IsInstance u.bounds u.rules i
     ku = rw (g.bounds, g.rules) at k
@@ -140,24 +140,24 @@ settled_after v u w c n t h en all g tried i k = go (all i kv)
     still : (e : Cell) → IsFlagged v e → number u.bounds e ≢ n → IsFlagged u e
     still e f ne = rw t.flags (get_or-set_other v.flags.items n (number u.bounds e) false false ne ∙ rw t.bounds f)
 
-    go : IsSettled v i → IsSettled w i
-    go (inl d) = settled_grows u w i g (inl (rw (t.bounds, t.values) d))
+    go : IsPropagated v i → IsPropagated w i
+    go (inl d) = propagated_grows u w i g (inl (rw (t.bounds, t.values) d))
     go (inr (inl f)) = ⊎_elim
         (λ (e : number u.bounds i.first ≡ n). tried i ku (inl (number_apart u.bounds i.first c ku.first h (e ∙ sym en))))
-        (λ (ne : number u.bounds i.first ≢ n). settled_grows u w i g (inr (inl (still i.first f ne))))
+        (λ (ne : number u.bounds i.first ≢ n). propagated_grows u w i g (inr (inl (still i.first f ne))))
         (cases_eq (number u.bounds i.first) n)
     go (inr (inr f)) = ⊎_elim
         (λ (e : number u.bounds (second_of i) ≡ n). tried i ku (second_parent i.first c i.second (number_apart u.bounds (second_of i) c (inside u.bounds u.rules i ku).1 h (e ∙ sym en))))
-        (λ (ne : number u.bounds (second_of i) ≢ n). settled_grows u w i g (inr (inr (still (second_of i) f ne))))
+        (λ (ne : number u.bounds (second_of i) ≢ n). propagated_grows u w i g (inr (inr (still (second_of i) f ne))))
         (cases_eq (number u.bounds (second_of i)) n)
 
-pub done_at_end : (w : Work) → AllSettled w → IsIdle w → AllDone w
+pub done_at_end : (w : Work) → AllPropagated w → IsIdle w → AllDone w
 done_at_end w all idle i k = go (all i k)
   where
     none : (n : ℕ) → get_or w.flags.items n false ≡ true → ⊥
     none n f = let e : get_or w.flags.items n false ≡ false = idle n in cc
 
-    go : IsSettled w i → IsDone (value_in w) i
+    go : IsPropagated w i → IsDone (value_in w) i
     go (inl d) = d
     go (inr (inl f)) = absurd (none _ f)
     go (inr (inr f)) = absurd (none _ f)
@@ -201,8 +201,8 @@ rises_step o v u w n r t g = record {
 }
 
 -- nothing waits any more
-pub settles : (o v w : Work) → AllSettled v → Rises o v → IsOver v w → Settles o w
-settles o v w all r h = record {
+pub propagates : (o v w : Work) → AllPropagated v → Rises o v → IsOver v w → Propagates o w
+propagates o v w all r h = record {
   bounds = h.bounds ∙ r.bounds;
   rules = h.rules ∙ r.rules;
   values = λ n. rw h.values (r.values n);

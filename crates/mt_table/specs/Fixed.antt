@@ -1,3 +1,4 @@
+-- Internal: a reader need not believe this.
 -- The fixed point of a table.
 use Rattle.std.specs.Prelude.{List}
 use Rattle.mt_derive.specs.Trees.{Entry}

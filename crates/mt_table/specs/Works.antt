@@ -1,3 +1,4 @@
+-- Internal: a reader need not believe this.
 -- What the rules do to the values of cells.
 use Rattle.std.specs.Prelude.{◌≡◌, ℕ, ◌+◌, ◌<◌, ◌≤◌, ◌⊎◌, Bool, true, false, cond, Option, None, Some, List, [], ◌∷◌, ◌++◌, length, get_or, slice_set}
 use Rattle.std.specs.List.{sum_by}
@@ -7,7 +8,7 @@ use Rattle.mt_cells.specs.declared.instances.Instance.{Instance}
 use Rattle.mt_cells.specs.Cells.{InBounds, number, cells_of}
 use Rattle.mt_cells.specs.declared.lines.Line.{Line}
 use Rattle.mt_cells.specs.Instances.{IsInstance, HasParent}
-use Rattle.mt_cells.specs.Places.{IsPlace, IsRightLine, instance_at}
+use Rattle.mt_cells.specs.Spots.{IsSpot, IsRightLine, instance_at}
 use Rattle.mt_derive.specs.Closed.{second_of, IsDone}
 use Rattle.mt_derive.specs.Trees.{Entry}
 use Rattle.mt_derive.specs.declared.nodes.Made.{Made}
@@ -57,23 +58,23 @@ abbrev pub IsIdle : Work → Type 0
 IsIdle w = (n : ℕ) → get_or w.flags.items n false ≡ false
 
 -- the instance is done, or a parent waits
-abbrev pub IsSettled : Work → Instance → Type 0
-IsSettled w i = IsDone (value_in w) i ⊎ (IsFlagged w i.first ⊎ IsFlagged w (second_of i))
+abbrev pub IsPropagated : Work → Instance → Type 0
+IsPropagated w i = IsDone (value_in w) i ⊎ (IsFlagged w i.first ⊎ IsFlagged w (second_of i))
 
-abbrev pub AllSettled : Work → Type 0
-AllSettled w = (i : Instance) → IsInstance w.bounds w.rules i → IsSettled w i
+abbrev pub AllPropagated : Work → Type 0
+AllPropagated w = (i : Instance) → IsInstance w.bounds w.rules i → IsPropagated w i
 
 -- the line is one of the cell's, as a parent
 abbrev pub IsLineOf : Work → Cell → Line → Type 0
 IsLineOf w c l = IsRightLine w.bounds w.rules c l.stage l.m l.depth l
 
--- the instances of the line in v are settled in w
-abbrev pub LineSettled : Work → Cell → Line → Work → Type 0
-LineSettled v c l w = (s : ℕ) → IsPlace v.bounds v.rules c l.stage l.m l.depth s → IsSettled w (instance_at c l.stage l.m l.depth s)
+-- the instances of the line in v are propagated in w
+abbrev pub LinePropagated : Work → Cell → Line → Work → Type 0
+LinePropagated v c l w = (s : ℕ) → IsSpot v.bounds v.rules c l.stage l.m l.depth s → IsPropagated w (instance_at c l.stage l.m l.depth s)
 
--- the instances with the parent in v are settled in w
-abbrev pub ParentSettled : Work → Cell → Work → Type 0
-ParentSettled v c w = (i : Instance) → IsInstance v.bounds v.rules i → HasParent c i → IsSettled w i
+-- the instances with the parent in v are propagated in w
+abbrev pub ParentPropagated : Work → Cell → Work → Type 0
+ParentPropagated v c w = (i : Instance) → IsInstance v.bounds v.rules i → HasParent c i → IsPropagated w i
 
 -- ---- steps
 
@@ -130,7 +131,7 @@ pub record IsOver (v w : Work) : Type 0 where
   pub flags : w.flags.items ≡ v.flags.items
   pub idle : IsIdle w
 
--- what a settling has done so far
+-- what a propagation has done so far
 pub record Rises (v w : Work) : Type 0 where
   pub bounds : w.bounds ≡ v.bounds
   pub rules : w.rules ≡ v.rules
@@ -138,7 +139,7 @@ pub record Rises (v w : Work) : Type 0 where
   pub shown : (L : List Entry) → AllShown v L → AllShown w L
 
 -- all instances were tried until none rose
-pub record Settles (v w : Work) : Type 0 where
+pub record Propagates (v w : Work) : Type 0 where
   pub bounds : w.bounds ≡ v.bounds
   pub rules : w.rules ≡ v.rules
   pub values : (n : ℕ) → get_or v.values.items n 0 ≤ get_or w.values.items n 0

@@ -59,7 +59,7 @@ impl Table {
     {
         let imports = Imports::with_room(alloc, bounds)?;
         let mut work = Work::new(alloc, bounds, rules)?;
-        work.settle(steps);
+        work.propagate(steps);
         Ok(Table { work, imports })
     }
 

@@ -4,7 +4,9 @@ ghost use Rattle.mt_cells.specs.declared.bounds.TheConstants.{MOST_COLUMNS};
 ghost use Rattle.mt_cells.specs.Cells.{cells_of};
 ghost use Rattle.mt_table.specs.Shapes.{IsShaped, NoneBefore, ArePlaced, ArePlaced-prop, HasRoom, AreTops, sum_of};
 
-use mt_cells::{Bounds, Cell, Instance, Line, RuleSet, Stage, Steps, conclude, lines_of_parent};
+use mt_cells::{
+    Bounds, Cell, Instance, Line, Rule, RuleSet, Stage, Steps, conclude, lines_of_parent,
+};
 use mt_derive::{Axioms, Made, Node, Nodes};
 use std::alloc::{AllocError, Global};
 use std::sync::ledger::Ledger;
@@ -45,8 +47,8 @@ impl Work {
     ghost use Rattle.mt_derive.specs.Closed.{second_of};
     ghost use Rattle.mt_cells.specs.Instances.{IsInstance, conclusion_of};
     ghost use Rattle.mt_derive.specs.Values.{sum_to};
-    ghost use Rattle.mt_table.specs.Works.{values_of, value_in, place_in, made_of, AreAxioms, AllSettled, IsSettled, IsLineOf, LineSettled};
-    ghost use Rattle.mt_table.specs.Works.{IsCopy, ParentSettled, Grows, IsRaised, IsTaken, IsOver, Rises, Settles};
+    ghost use Rattle.mt_table.specs.Works.{values_of, value_in, place_in, made_of, AreAxioms, AllPropagated, IsPropagated, IsLineOf, LinePropagated};
+    ghost use Rattle.mt_table.specs.Works.{IsCopy, ParentPropagated, Grows, IsRaised, IsTaken, IsOver, Rises, Propagates};
 
     // The values of the axioms. All cells wait.
     pub(crate) fn new(alloc: Global, bounds: Bounds, rules: RuleSet) -> Result<Work, AllocError>
@@ -54,7 +56,7 @@ impl Work {
         ensures rules { IfOk result (λ w. w.rules ≡ rules) }
         ensures axioms { IfOk result (λ w. AreAxioms bounds w.nodes.list w.values.items
             w.places.items (cells_of bounds)) }
-        ensures settled { IfOk result AllSettled }
+        ensures propagated { IfOk result AllPropagated }
     {
         let cells = bounds.cells() as usize;
         let axioms = Axioms::new(alloc, bounds)?;
@@ -179,7 +181,7 @@ impl Work {
     fn offer<L: Ledger>(&mut self, instance: &Instance, steps: &mut Steps<L>)
         requires { IsInstance self.old.bounds self.old.rules instance.now }
         ensures grows { Grows self.old self.new }
-        ensures settled { IsSettled self.new instance.now }
+        ensures propagated { IsPropagated self.new instance.now }
     {
         let first = self.value(instance.first);
         let second = self.value(instance.other());
@@ -196,39 +198,39 @@ impl Work {
         requires right { IsLineOf self.old cell line.now }
         requires some { line.now.first ≤ line.now.last }
         ensures grows { Grows self.old self.new }
-        ensures tried { LineSettled self.old cell line.now self.new }
+        ensures tried { LinePropagated self.old cell line.now self.new }
     {
         match line.stage {
-            Stage::ProductFirst => {
-                let line = Line {
-                    stage: Stage::ProductFirst,
-                    ..*line
-                };
-                self.run_line(cell, &line, steps)
-            }
-            Stage::ProductSecond => {
-                let line = Line {
-                    stage: Stage::ProductSecond,
-                    ..*line
-                };
-                self.run_line(cell, &line, steps)
-            }
-            Stage::UuvFirst => {
-                let line = Line {
-                    stage: Stage::UuvFirst,
-                    ..*line
-                };
-                self.run_line(cell, &line, steps)
-            }
-            Stage::UuvSecond => {
-                let line = Line {
-                    stage: Stage::UuvSecond,
-                    ..*line
-                };
-                self.run_line(cell, &line, steps)
-            }
-            Stage::Single(_) | Stage::End => self.run_line(cell, line, steps),
+            Stage::First(Rule::Product) => self.run_stage(
+                cell,
+                line,
+                Stage::First(Rule::Product),
+                steps,
+            ),
+            Stage::First(Rule::Uuv) => self.run_stage(cell, line, Stage::First(Rule::Uuv), steps),
+            Stage::Second(Rule::Product) => self.run_stage(
+                cell,
+                line,
+                Stage::Second(Rule::Product),
+                steps,
+            ),
+            Stage::Second(Rule::Uuv) => self.run_stage(cell, line, Stage::Second(Rule::Uuv), steps),
+            _ => self.run_line(cell, line, steps),
         }
+    }
+
+    // The same of a line of this stage.
+    #[inline(always)]
+    fn run_stage<L: Ledger>(&mut self, cell: Cell, line: &Line, stage: Stage, steps: &mut Steps<L>)
+        requires inside { InBounds self.old.bounds cell }
+        requires right { IsLineOf self.old cell line.now }
+        requires some { line.now.first ≤ line.now.last }
+        requires stage { line.now.stage ≡ stage }
+        ensures grows { Grows self.old self.new }
+        ensures tried { LinePropagated self.old cell line.now self.new }
+    {
+        let line = Line { stage, ..*line };
+        self.run_line(cell, &line, steps)
     }
 
     #[inline(always)]
@@ -237,7 +239,7 @@ impl Work {
         requires right { IsLineOf self.old cell line.now }
         requires some { line.now.first ≤ line.now.last }
         ensures grows { Grows self.old self.new }
-        ensures tried { LineSettled self.old cell line.now self.new }
+        ensures tried { LinePropagated self.old cell line.now self.new }
     {
         for s in line.first..line.last + 1 {
             if s != line.skip {
@@ -251,7 +253,7 @@ impl Work {
     fn try_all<L: Ledger>(&mut self, cell: Cell, steps: &mut Steps<L>)
         requires { InBounds self.old.bounds cell }
         ensures grows { Grows self.old self.new }
-        ensures tried { ParentSettled self.old cell self.new }
+        ensures tried { ParentPropagated self.old cell self.new }
     {
         let mut lines = lines_of_parent(self.bounds, self.rules, cell);
         while let Some(line) = lines.next() {
@@ -274,9 +276,9 @@ impl Work {
 
     // Tries the instances of the sequences that wait, so that arrays start from what these give: in
     // the order of cells they come after the arrays, whose instances would be tried over again.
-    fn settle_sequences<L: Ledger>(&mut self, steps: &mut Steps<L>)
-        requires { AllSettled self.old }
-        ensures settled { AllSettled self.new }
+    fn propagate_sequences<L: Ledger>(&mut self, steps: &mut Steps<L>)
+        requires { AllPropagated self.old }
+        ensures propagated { AllPropagated self.new }
         ensures rises { Rises self.old self.new }
     {
         for n in 0..self.bounds.cells() {
@@ -288,11 +290,11 @@ impl Work {
     }
 
     // Tries the instances of cells that wait until none does.
-    pub(crate) fn settle<L: Ledger>(&mut self, steps: &mut Steps<L>)
-        requires { AllSettled self.old }
-        ensures { Settles self.old self.new }
+    pub(crate) fn propagate<L: Ledger>(&mut self, steps: &mut Steps<L>)
+        requires { AllPropagated self.old }
+        ensures { Propagates self.old self.new }
     {
-        self.settle_sequences(steps);
+        self.propagate_sequences(steps);
         while let Some(n) = self.take() {
             let cell = Cell::at(self.bounds, n);
             self.try_all(cell, steps);

@@ -1,7 +1,7 @@
 use Rattle.std.proofs.Common.{arith, ◌≤◌}
 use Rattle.mt_cells.specs.declared.lines.Stage.TheVariants.{Single}
 use Rattle.mt_cells.specs.declared.rules.Rule.TheVariants.{Fewer}
-use Rattle.mt_cells.specs.Places.{key}
+use Rattle.mt_cells.specs.Spots.{key}
 use Rattle.mt_cells.proofs.ListedLemmas.{is_listing_of}
 use Rattle.mt_cells.proofs.instances.instances_of_parent.Goals as goal
 

@@ -1,7 +1,7 @@
 use Rattle.std.proofs.Common.{◌≡◌, ◌-◌, ◌<◌, [], ◌∷◌, ◌++◌, length, get_or, sym, ap, ◌∙◌, subst, arith}
 use Rattle.std.proofs.lemmas.List.{get_or_read, length_push}
 use Rattle.std.specs.Prelude.{Contains}
-use Rattle.mt_derive.specs.Built.{IsKnown}
+use Rattle.mt_derive.specs.Ready.{IsKnown}
 use Rattle.mt_derive.proofs.PlaceLemmas.{place_last}
 use Rattle.mt_derive.proofs.NodeLemmas.{reaches_self}
 use Rattle.mt_derive.proofs.BuildLemmas.{shown_at, parent_at, known_push}

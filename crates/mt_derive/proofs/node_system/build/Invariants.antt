@@ -1,5 +1,5 @@
 use Rattle.std.proofs.Common.{◌≡◌, length}
-use Rattle.mt_derive.specs.Built.{AreKnown}
+use Rattle.mt_derive.specs.Ready.{AreKnown}
 use Rattle.mt_derive.proofs.node_system.build.Given as goal
 
 abbrev pub invariant-loop-place : goal.invariant-loop-place

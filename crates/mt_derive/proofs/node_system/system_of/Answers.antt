@@ -1,12 +1,12 @@
-use Rattle.std.proofs.Common.{◌≡◌, ◌-◌, take, sym, ap, ◌∙◌, subst, arith}
+use Rattle.std.proofs.Common.{◌≡◌, ◌-◌, None, Some, take, sym, ap, ◌∙◌, subst, arith}
 use Rattle.mt_system.specs.Statements.{Statement, statement_of}
 use Rattle.mt_derive.specs.Trees.{Axiom}
 use Rattle.mt_derive.specs.declared.nodes.Node.{Node}
 use Rattle.mt_derive.specs.Places.{IsAt}
 use Rattle.mt_derive.specs.Imports.{IsImport, entry_of}
-use Rattle.mt_derive.specs.Nodes.{IsAxiomNode, IsRuleNode, IsPairNode, made_of}
+use Rattle.mt_derive.specs.Nodes.{IsAxiomNode, IsRuleNode, made_of}
 use Rattle.mt_derive.specs.Systems.{IsWhole, IsAxiomSystem, IsRuleSystem, IsPairSystem}
-use Rattle.mt_derive.specs.Built.{IsKnown}
+use Rattle.mt_derive.specs.Ready.{IsKnown}
 use Rattle.mt_derive.proofs.PlaceLemmas.{place_below, place_same}
 use Rattle.mt_derive.proofs.NodeLemmas.{is_one, is_first, is_second}
 use Rattle.mt_derive.proofs.BuildLemmas.{axiom_known, import_known, parent_known, parent_ready, parents_ready, rule_known, pair_known, parent_of, parents_of, parent_place, axiom_of}
@@ -35,7 +35,7 @@ system_at-second-requires-clause-place c = parent_place c.args.nodes.now.list _ 
 
 pub made_by-requires : goal.made_by-requires
 made_by-requires c =
-    let x : (x : Node) × IsAt c.args.nodes.now.list c.in-One.parent x × IsRuleNode c.in-One.rule x c.get-node.result =
+    let x : (x : Node) × IsAt c.args.nodes.now.list c.in-One.parent x × IsRuleNode c.in-One.rule x None c.get-node.result =
     parent_of c.args.nodes.now.list c.args.number c.get-node.result c.in-One.rule c.in-One.parent c.get-node.ensures.right c.in-One.is in
     parent_ready c.args.nodes.now.list c.args.imports.now.list c.in-One.parent c.in-One.rule x.0 c.get-node.result c.system_at-parent.result.now
     x.1 x.2
@@ -44,7 +44,7 @@ made_by-requires c =
 pub made_by_two-requires : goal.made_by_two-requires
 made_by_two-requires c =
     let x : (x y : Node) × IsAt c.args.nodes.now.list c.in-Two.first x × IsAt c.args.nodes.now.list c.in-Two.second y
-    × IsPairNode c.in-Two.rule x y c.get-node.result =
+    × IsRuleNode c.in-Two.rule x (Some y) c.get-node.result =
     parents_of c.args.nodes.now.list c.args.number c.get-node.result c.in-Two.rule c.in-Two.first c.in-Two.second c.get-node.ensures.right c.in-Two.is in
     parents_ready c.args.nodes.now.list c.args.imports.now.list c.in-Two.first c.in-Two.second c.in-Two.rule x.0 x.1 c.get-node.result
     c.system_at-first.result.now c.system_at-second.result.now x.2 x.3 x.4
@@ -71,7 +71,7 @@ returns-in_ok-copy-in-Import c =
 
 pub returns-in_ok-made_by-in-One : goal.returns-in_ok-made_by-in-One
 returns-in_ok-made_by-in-One c =
-    let x : (x : Node) × IsAt c.args.nodes.now.list c.in-One.parent x × IsRuleNode c.in-One.rule x c.get-node.result =
+    let x : (x : Node) × IsAt c.args.nodes.now.list c.in-One.parent x × IsRuleNode c.in-One.rule x None c.get-node.result =
     parent_of c.args.nodes.now.list c.args.number c.get-node.result c.in-One.rule c.in-One.parent c.get-node.ensures.right c.in-One.is in
     rule_known c.args.nodes.now.list c.args.imports.now.list c.args.number c.in-One.parent c.in-One.rule x.0 c.get-node.result
     c.system_at-parent.result.now c.whole-in-One.result c.get-node.ensures.place c.in-One.is x.1 x.2
@@ -82,7 +82,7 @@ returns-in_ok-made_by-in-One c =
 pub returns-in_ok-made_by_two-in-Two : goal.returns-in_ok-made_by_two-in-Two
 returns-in_ok-made_by_two-in-Two c =
     let x : (x y : Node) × IsAt c.args.nodes.now.list c.in-Two.first x × IsAt c.args.nodes.now.list c.in-Two.second y
-    × IsPairNode c.in-Two.rule x y c.get-node.result =
+    × IsRuleNode c.in-Two.rule x (Some y) c.get-node.result =
     parents_of c.args.nodes.now.list c.args.number c.get-node.result c.in-Two.rule c.in-Two.first c.in-Two.second c.get-node.ensures.right c.in-Two.is in
     pair_known c.args.nodes.now.list c.args.imports.now.list c.args.number c.in-Two.first c.in-Two.second c.in-Two.rule x.0 x.1 c.get-node.result
     c.system_at-first.result.now c.system_at-second.result.now c.whole-in-Two.result c.get-node.ensures.place c.in-Two.is x.2 x.3 x.4

@@ -13,7 +13,7 @@ pub loop-self-preserved-then-self-s : goal.loop-self-preserved-then-self-s
 loop-self-preserved-then-self-s c =
     let at = c.loop-self.self-inside in
     let told = c.in_ok-self-inside.ensures in
-    let next = cursor_next at.lines at.line at.s c.loop-self.invariant.cursor c.next.new.self told.bounds told.rules told.cell c.if-self-s.true c.in_ok-self-inside.field-0 told.place told.line told.after.0 told.after.1 told.few.0 told.passed in
+    let next = cursor_next at.lines at.line at.s c.loop-self.invariant.cursor c.next.new.self told.bounds told.rules told.cell c.if-self-s.true c.in_ok-self-inside.field-0 told.position told.line told.after.0 told.after.1 told.some told.passed in
     record { cursor = next.0; same = c.loop-self.invariant.same ∙ next.1 }
 
 pub loop-self-preserved : goal.loop-self-preserved

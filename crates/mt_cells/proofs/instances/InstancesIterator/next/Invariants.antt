@@ -1,5 +1,5 @@
 use Rattle.std.proofs.Common.{◌≡◌, ◌+◌, ◌-◌}
-use Rattle.mt_cells.specs.Places.{place_number, end_number}
+use Rattle.mt_cells.specs.Spots.{spot_number, end_number}
 use Rattle.mt_cells.specs.Listed.{IsCursor, instances_left}
 use Rattle.mt_cells.proofs.instances.InstancesIterator.next.Given as goal
 
@@ -10,4 +10,4 @@ invariant-loop-self l = record {
 }
 
 abbrev pub decreases-loop-self : goal.decreases-loop-self
-decreases-loop-self l = end_number + 65536 - place_number l.self-inside.line.stage l.self-inside.line.m l.self-inside.line.depth l.self-inside.s
+decreases-loop-self l = end_number + 65536 - spot_number l.self-inside.line.stage l.self-inside.line.m l.self-inside.line.depth l.self-inside.s

@@ -1,5 +1,5 @@
 use Rattle.std.proofs.Common.{arith, ◌∙◌}
-use Rattle.mt_cells.proofs.PlaceLemmas.{key_low, past_empty, past_line}
+use Rattle.mt_cells.proofs.SpotLemmas.{key_low, past_empty, past_line}
 use Rattle.mt_cells.proofs.lines.Lines.next.Goals as goal
 
 pub returns-then-line-clause-passed : goal.returns-then-line-clause-passed
@@ -13,7 +13,6 @@ loop-self-preserved c = record {
   rules = c.step.ensures.rules ∙ c.loop-self.invariant.rules;
   cell = c.step.ensures.cell ∙ c.loop-self.invariant.cell;
   later = omega (arith, c.step.ensures.later);
-  few = omega (arith, c.step.ensures.few);
   passed = past_empty c.args.self.now.bounds c.args.self.now.rules c.args.self.now.cell c.loop-self.self.stage c.loop-self.self.m c.loop-self.self.depth _ _ _ c.args.self.now.inside (rw c.loop-self.invariant.bounds at c.loop-self.self.position) (rw (c.loop-self.invariant.bounds, c.loop-self.invariant.rules, c.loop-self.invariant.cell) at c.line-line.ensures) c.if-line.false c.loop-self.invariant.passed (rw (c.loop-self.invariant.bounds, c.loop-self.invariant.rules, c.loop-self.invariant.cell) at c.step.ensures.none);
 }
 

@@ -1,5 +1,5 @@
-use Rattle.std.proofs.Common.{◌≡◌}
-use Rattle.mt_cells.specs.Places.{key, left}
+use Rattle.std.proofs.Common.{◌≡◌, ◌-◌}
+use Rattle.mt_cells.specs.Spots.{key, end_key}
 use Rattle.mt_table.specs.Works.{Grows}
 use Rattle.mt_table.proofs.LineLemmas.{LinesTried}
 use Rattle.mt_table.proofs.work.Work.try_all.Given as goal
@@ -10,4 +10,4 @@ invariant-loop-line g l = (l.lines.bounds ≡ l.fn.self.bounds) × (l.lines.rule
     × LinesTried l.fn.self.bounds l.fn.self.rules l.self l.cell (key l.lines.stage l.lines.m l.lines.depth)
 
 abbrev pub decreases-loop-line : goal.decreases-loop-line
-decreases-loop-line g l = left l.lines.bounds l.lines.stage l.lines.m l.lines.depth
+decreases-loop-line g l = end_key - key l.lines.stage l.lines.m l.lines.depth

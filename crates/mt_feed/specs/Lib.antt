@@ -1,0 +1,4 @@
+pub mod Faring
+pub mod Kept
+pub mod Lines
+pub mod Written

@@ -1,0 +1,14 @@
+pub mod Addresses
+pub mod Awaiting
+pub mod Buffers
+pub mod Bytes
+pub mod Fields
+pub mod Finding
+pub mod Heads
+pub mod Items
+pub mod Lengths
+pub mod Parsed
+pub mod Places
+pub mod Questions
+pub mod Reading
+pub mod Responses

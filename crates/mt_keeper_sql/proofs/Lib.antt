@@ -1,0 +1,6 @@
+mod KeeperLemmas
+mod QueryLemmas
+mod RowLemmas
+mod StandingLemmas
+mod StatementLemmas
+mod Texts

@@ -1,0 +1,9 @@
+use Rattle.sqlite.specs.Held.{state}
+use Rattle.mt_keeper_sql.proofs.StatementLemmas.{creates, not_run}
+use Rattle.mt_keeper_sql.proofs.statements.create.Goals as goal
+
+pub returns-clause-ok : goal.returns-clause-ok
+returns-clause-ok g c = λ clean. creates (state g.S.Store c.args.connection.now) (state g.S.Store c.execute.new.self) c.execute.result (c.execute.ensures.runs clean)
+
+pub returns-clause-err : goal.returns-clause-err
+returns-clause-err g c = λ clean. not_run (state g.S.Store c.args.connection.now) (state g.S.Store c.execute.new.self) _ _ c.execute.result (c.execute.ensures.runs clean)

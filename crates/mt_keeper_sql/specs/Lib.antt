@@ -1,0 +1,4 @@
+pub mod Keepers
+pub mod Rows
+pub mod Standing
+pub mod Store

@@ -1,0 +1,5 @@
+use Rattle.mt_table.specs.Works.{AllPropagated, Rises}
+use Rattle.mt_table.proofs.work.Work.propagate_sequences.Given as goal
+
+abbrev pub invariant-loop-n : goal.invariant-loop-n
+invariant-loop-n g l = AllPropagated l.self × Rises l.fn.self l.self
