@@ -65,11 +65,21 @@ prove() {
     return $result
 }
 
+# The crates that the program stands on, in the order of crates.txt, and the program's own.
+needed() {
+    awk '{ sub(/:/, " : ") }
+        /^[a-z]/ { names[++count] = $1; behind = 0
+            for (i = 2; i <= NF; i++) if ($i == ":") behind = 1; else if (behind) stands[$1] = stands[$1] " " $i }
+        END { wanted["mint"] = 1
+            for (n = count; n > 0; n--) if (wanted[names[n]]) { split(stands[names[n]], below, " "); for (b in below) wanted[below[b]] = 1 }
+            for (n = 1; n <= count; n++) if (wanted[names[n]]) print names[n] }' "$top/crates.txt"
+}
+
 # Proves the crates in their order, and builds the program.
 build() {
     start=$(date +%s)
     number=0
-    names=$(sed -n 's/^\([a-z_]*\):.*/\1/p' "$top/crates.txt")
+    names=$(needed)
     crates=$(echo "$names" | wc -l)
     : >"$out/build.log"
     rm -f "$program"

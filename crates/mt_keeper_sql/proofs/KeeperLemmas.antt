@@ -1,5 +1,5 @@
 -- What a keeper tells after a load and after a put.
-use Rattle.std.proofs.Common.{◌≡◌, ◌⊎◌, inl, inr, ℕ, ◌+◌, Bool, true, false, List, [], ◌∷◌, ◌++◌, length, map, Option, None, Some, Result, Ok, Err, IsTrue, refl, sym, ap, ◌∙◌, subst}
+use Rattle.std.proofs.Common.{◌≡◌, inl, inr, ℕ, ◌+◌, Bool, true, false, List, [], ◌∷◌, ◌++◌, length, map, Option, None, Some, Result, Ok, Err, IsTrue, refl, sym, ap, subst}
 use Rattle.std.specs.Prelude.{◌&&◌, not, MatchResult, IfOk}
 use Rattle.sqlite.specs.Effect.{Database}
 use Rattle.sqlite.specs.State.{State, HasCleanDisk}
@@ -8,7 +8,7 @@ use Rattle.sqlite.specs.Order.{column}
 use Rattle.sqlite.specs.Store.{Ghosts}
 use Rattle.sqlite_trees.proofs.Doubt.{clean_of, no_doubt}
 use Rattle.mt_keeper.specs.Keeping.{IsNext, Loads, Puts}
-use Rattle.mt_keeper_sql.specs.Keepers.{SqlKeeperState, HoldsTexts, texts_in, texts_by, bytes_of, told_by, told_records}
+use Rattle.mt_keeper_sql.specs.Keepers.{SqlKeeperState, HoldsTexts, texts_in, bytes_of, told_by, told_records}
 use Rattle.mt_keeper_sql.specs.Standing.{Stands, Leaves}
 use Rattle.mt_keeper_sql.specs.Store.{Holds, stored_rows}
 

@@ -1,8 +1,8 @@
 -- What stands after a refusal, after a statement that changes nothing, and after a write.
-use Rattle.std.proofs.Common.{◌≡◌, ◌⊎◌, inl, inr, ℕ, false, IsTrue, if◌then◌else◌, List, Option, None, Some, Ok, Err, sym, ap, ◌∙◌, subst}
+use Rattle.std.proofs.Common.{◌⊎◌, inl, inr, ℕ, false, IsTrue, if◌then◌else◌, List, Option, None, Some, Err, sym, ap, ◌∙◌, subst}
 use Rattle.sqlite.specs.Command.{Command}
 use Rattle.sqlite.specs.Order.{Row}
-use Rattle.sqlite.specs.State.{State, ExecutesIn, Executes, FailsToQuery, FailsToShow, IsNotRun, IsUnchanged, IsRolledBack, Writes}
+use Rattle.sqlite.specs.State.{State, ExecutesIn, Executes, FailsToQuery, FailsToShow, IsUnchanged, IsRolledBack, Writes}
 use Rattle.sqlite.specs.declared.error.Error.{Error}
 use Rattle.sqlite.proofs.InsideLemmas.{fails_whole}
 use Rattle.sqlite_resolve.specs.declared.compiled.Compiled.{Compiled}

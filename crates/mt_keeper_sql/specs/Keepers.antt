@@ -1,5 +1,5 @@
 -- What a keeper over SQL is seen as, and the records that it tells.
-use Rattle.std.specs.Prelude.{ℕ, ◌+◌, Bool, true, false, List, [], ◌∷◌, map, Option, None, Some, IsTrue, refl}
+use Rattle.std.specs.Prelude.{ℕ, Bool, true, false, List, [], ◌∷◌, map, Option, None, Some, IsTrue, refl}
 use Rattle.std.specs.Coded.{Coded, code_by, coded×, coded_ℕ, coded_bool}
 use Rattle.sqlite.specs.Effect.{Database}
 use Rattle.sqlite.specs.Held.{Held, held_code}
@@ -49,7 +49,7 @@ told_by false is_open is_clean db = None
 abbrev pub told_records : Bool → State → Option (List (List ℕ))
 told_records tells s = told_by tells s.is_open s.is_clean s.now
 
--- the store holds some texts; after a refusal only where the connection is still open
+-- Internal: the store holds some texts; after a refusal only where the connection is still open
 abbrev pub HoldsTexts : Bool → State → Type 0
 HoldsTexts false s = (texts : List (List ℕ)) × Stands s texts
 HoldsTexts true s = IsTrue s.is_open → (texts : List (List ℕ)) × Stands s texts

@@ -1,4 +1,4 @@
--- Rows that a query shows as records.
+-- Internal: rows that a query shows as records.
 use Rattle.std.specs.Prelude.{◌≡◌, ℕ, ◌+◌, pos, List, [], ◌∷◌}
 use Rattle.sqlite.specs.Order.{Row, column}
 use Rattle.sqlite.specs.declared.types.Value.TheVariants.{Int, Blob}

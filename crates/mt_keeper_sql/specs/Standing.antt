@@ -1,4 +1,4 @@
--- What stands in a store between two statements, and what each statement leaves.
+-- Internal: what stands in a store between two statements, and what each statement leaves.
 use Rattle.std.specs.Prelude.{◌≡◌, ℕ, ◌+◌, false, List, [], ◌∷◌, ◌++◌, length, IsTrue}
 use Rattle.sqlite.specs.Order.{Row}
 use Rattle.sqlite.specs.State.{State}
