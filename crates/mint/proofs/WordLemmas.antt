@@ -1,10 +1,9 @@
 -- Numbers and questions among words.
-use Rattle.std.proofs.Common.{Bor, ◌≡◌, ◌≢◌, ℕ, ◌+◌, ◌^◌, ◌<◌, ◌≤◌, List, ◌++◌, ◌∷◌, length, get_or, codes, decimal, ap, ap₂, sym, ◌∙◌, subst, arith, inl, inr}
-use Rattle.std.specs.Prelude.{Option, None, Some, Result, Ok, Err, MatchOption, IsSome, IfSome, ◌↔◌}
-use Rattle.std.specs.Result.{OkIff, result_ok}
+use Rattle.std.proofs.Common.{Bor, ◌≡◌, ◌≢◌, ℕ, ◌+◌, ◌^◌, ◌<◌, ◌≤◌, List, ◌++◌, ◌∷◌, codes, decimal, ap, ap₂, sym, ◌∙◌, subst, arith}
+use Rattle.std.specs.Prelude.{Option, None, Some, MatchOption, IsSome, IfSome, ◌↔◌}
 use Rattle.std.specs.Str.Parse.{AllDigits, digits_value}
-use Rattle.std.proofs.lemmas.Bool.{cases_lt, false≢true}
-use Rattle.std.proofs.lemmas.Fmt.{decimal_digit, decimal_injective, first_decimal, decimal_is_IsNumeral, decimal-digits_value}
+use Rattle.std.proofs.lemmas.Bool.{false≢true}
+use Rattle.std.proofs.lemmas.Fmt.{decimal_injective, decimal_is_IsNumeral}
 use Rattle.std.proofs.lemmas.Str.Parse.{IsNumeralModel, numerals_by_value, tells_digits, not_in_digits}
 use Rattle.std.proofs.lemmas.Str.Pattern.{IsSplitOnceResult, split_after}
 use Rattle.mt_cells.specs.declared.bounds.Bounds.{Bounds}

@@ -1,25 +1,14 @@
 -- Heads in a part of the stream.
-use Rattle.std.proofs.Common.{◌≡◌, ℕ, zero, suc, ◌+◌, ◌-◌, ◌<◌, ◌≤◌, min, true, false, cond, List, [], ◌∷◌, length, take, drop, refl, sym, ◌∙◌, arith, length-take, length-drop, inl, inr}
+use Rattle.std.proofs.Common.{◌≡◌, ℕ, zero, suc, ◌+◌, ◌-◌, ◌≤◌, min, true, false, cond, List, [], ◌∷◌, length, take, drop, refl, sym, ◌∙◌, arith, length-drop, inl, inr}
 use Rattle.std.proofs.lemmas.Bool.{cases_lt}
 use Rattle.std.proofs.lemmas.List.{take-take}
 use Rattle.std.proofs.lemmas.List.Sums.{prefix_len-le-length}
 use Rattle.mt_http.specs.declared.TheConstants.{HEAD_LIMIT}
-use Rattle.mt_http.specs.Bytes.{is_line_end, blank_len, from_head, ends_empty, IsHeadLen, LacksHead}
+use Rattle.mt_http.specs.Bytes.{is_line_end, blank_len, from_head, ends_empty, LacksHead}
 use Rattle.mt_http.specs.Places.{LacksHeadIn}
 
 pub true_ne_false : true ≡ false → ⊥
 true_ne_false e = cc
-
--- of a shorter prefix of the text
-pub head_in_prefix : (text : List ℕ) (k n : ℕ) → IsHeadLen (take k text) n → IsHeadLen text n
-head_in_prefix text k n h =
-    let len = length-take k text in
-    let le : n ≤ k = omega (arith, h.within, len) in
-    record {
-      within = omega (arith, h.within, len);
-      ends = rw (← take-take n k text le) h.ends;
-      first = λ m lt. rw (← take-take m k text (omega arith)) (h.first m lt);
-    }
 
 -- an empty text ends in no empty line
 pub empty_ends_not : ends_empty [] ≡ false
@@ -48,11 +37,6 @@ pub none_in_prefix : (stream : List ℕ) (k : ℕ) → k ≡ min (length stream)
 none_in_prefix stream k is none n within =
     let le : n ≤ k = omega arith in
     rw (← take-take n k (from_head stream) le) (none n le)
-
--- what was looked at, in a part
-pub seen_in_prefix : (stream : List ℕ) (seen k m : ℕ) → LacksHeadIn seen stream → m < seen - blank_len stream → m ≤ k
-    → ends_empty (take m (take k (from_head stream))) ≡ false
-seen_in_prefix stream seen k m none lt le = rw (take-take m k (from_head stream) le) (none m (omega arith))
 
 -- line ends that are known are not counted again
 pub blank_behind : (stream : List ℕ) (known : ℕ) → known ≤ blank_len stream → known + blank_len (drop known stream) ≡ blank_len stream

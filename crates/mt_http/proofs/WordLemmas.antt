@@ -1,7 +1,6 @@
 -- Numbers among the parts of a path.
 use Rattle.std.proofs.Common.{◌≡◌, ◌≢◌, ℕ, ◌^◌, ◌<◌, List, [], ◌∷◌, length, decimal, sym, ◌∙◌, subst, refl, take, drop, cond, true, false, ◌&&◌, leb, ◌-◌}
 use Rattle.std.specs.Prelude.{Option, None, Some, MatchOption, IfSome, IfNone, IsAscii, IsUtf8}
-use Rattle.std.proofs.lemmas.Fmt.{decimal_injective}
 use Rattle.std.proofs.lemmas.Str.{IsUtf8-from_ascii, IsAscii-take, IsAscii-drop}
 use Rattle.matchit.specs.Params.{walk, part_of}
 use Rattle.mt_http.specs.Addresses.{Pairs, ArePartsAscii, IsNumberFirst}
@@ -32,15 +31,6 @@ pub missing_by : (old new : Pairs) (part : List ℕ) (x : List ℕ × List ℕ) 
     → IfNone r ((n : ℕ) (rest : Pairs) → ¬ IsNumberFirst old n rest)
 missing_by old new part x e shows ascii None h = number_missing old new part x e shows ascii h
 missing_by old new part x e shows ascii (Some n) h = tt
-
--- the first part is one number
-pub one_number : (parts : Pairs) (n m : ℕ) (rest behind : Pairs) → IsNumberFirst parts n rest → IsNumberFirst parts m behind → (n ≡ m) × (rest ≡ behind)
-one_number [] n m rest behind h k = absurd h
-one_number (p ∷ ps) n m rest behind h k = (decimal_injective n m h.0 k.0 (sym h.1 ∙ k.1), h.2 ∙ sym k.2)
-
--- what follows a first number that was read
-pub number_then : (parts rest behind : Pairs) (n m : ℕ) → IsNumberFirst parts n rest → IsNumberFirst parts m behind → behind ≡ rest
-number_then parts rest behind n m h k = sym (one_number parts n m rest behind h k).1
 
 -- a part of a path is ASCII where the path is
 part_ascii : (path : List ℕ) (start end : ℕ) → IsAscii path → IsAscii (part_of path start end)

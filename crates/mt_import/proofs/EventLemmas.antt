@@ -16,7 +16,8 @@ use Rattle.mt_import.specs.Headers.{IsHeaderLine}
 use Rattle.mt_import.specs.Texts.{HasHeader, Begins, IsImport, HasNoHeader, IsRefusal}
 use Rattle.mt_import.specs.Withdrawals.{BeginsWithdrawal, IsWithdrawal, IsRefusedWithdrawal}
 use Rattle.mt_import.specs.Events.{IsSomeImport, IsEvent, SaysWithdraw, HasNoWithdrawLine, IsEventRefusal}
-use Rattle.mt_import.specs.EventReading.{IsEventText, RefusesWithdrawal}
+use Rattle.mt_import.specs.WithdrawalAnswers.{RefusesWithdrawal}
+use Rattle.mt_import.specs.EventReading.{IsEventText}
 use Rattle.mt_import.specs.EventLaws.{WantsHeaderOrBlank}
 use Rattle.mt_import.proofs.ReadingLemmas.{has_header}
 use Rattle.mt_import.proofs.LawLemmas.{not_both, one_refusal}
@@ -76,7 +77,7 @@ withdrawal_cause : (text name : List ℕ) (others : List (List ℕ)) (refused : 
 withdrawal_cause text name others refused b r = behind text name others refused b (cause text refused (says_withdraw text name others b) b.few r)
 
 -- any other text that is refused is refused as an import text
-as_import : (text : List ℕ) (refused : FormRefused) → IsEventRefusal text refused → IsRefusal text refused ⊎ (RefusesWithdrawal text refused)
+as_import : (text : List ℕ) (refused : FormRefused) → IsEventRefusal text refused → IsRefusal text refused ⊎ RefusesWithdrawal text refused
 as_import text TooLong r = inl r
 as_import text (Line n wanted.Header) r = inl (r.0, r.1, r.2.0)
 as_import text (Line n wanted.Source) r = inl r

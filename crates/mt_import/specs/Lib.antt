@@ -8,6 +8,7 @@ pub mod SourceAnswers
 pub mod Reading
 pub mod Withdrawals
 pub mod Events
+pub mod WithdrawalAnswers
 pub mod EventReading
 pub mod Laws
 pub mod EventLaws

@@ -1,7 +1,7 @@
 //! Withdrawal texts, and the canonical one of a name.
 ghost use Rattle.std.specs.Prelude.{◌≡◌, ℕ, List, IfOk, IfSome, Some, MatchOption};
 ghost use Rattle.mt_import.specs.Withdrawals.{IsWithdrawLine, IsWithdrawal, withdraw_text};
-ghost use Rattle.mt_import.specs.EventReading.{IsWithdrawAnswer};
+ghost use Rattle.mt_import.specs.WithdrawalAnswers.{IsWithdrawAnswer};
 
 use crate::import_text::{MOST_BYTES, read_end};
 use crate::lines::{split_line, split_word};

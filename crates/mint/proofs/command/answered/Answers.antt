@@ -1,4 +1,4 @@
-use Rattle.std.proofs.Common.{ℕ, List, [], inr, refl, subst}
+use Rattle.std.proofs.Common.{List, inr, refl, subst}
 use Rattle.mt_system.specs.Statements.{Statement}
 use Rattle.mt_cells.specs.declared.bounds.Bounds.{Bounds}
 use Rattle.mt_answer.specs.Answers.{IsTextFor}

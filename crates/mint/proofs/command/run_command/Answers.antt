@@ -1,5 +1,4 @@
-use Rattle.std.proofs.Common.{ℕ, List, inl, inr, refl, sym, ap, subst, arith}
-use Rattle.std.specs.Prelude.{Option}
+use Rattle.std.proofs.Common.{inl, inr, refl, sym, ap, subst, arith}
 use Rattle.mint.specs.declared.status.Status.{Status}
 use Rattle.mint.specs.declared.status.Status.TheVariants.{Words}
 use Rattle.mint.specs.Statuses.{number_of_status}

@@ -1,4 +1,4 @@
-use Rattle.std.proofs.Common.{◌≡◌, ◌≢◌, ℕ, List, get_or, codes, map, string_bytes, ap, sym, ◌∙◌, arith}
+use Rattle.std.proofs.Common.{◌≡◌, ℕ, List, get_or, codes, map, string_bytes, ap, sym, ◌∙◌, arith}
 use Rattle.mint.proofs.WordLemmas.{asks_for_none}
 use Rattle.mint.proofs.words.read_task.Goals as goal
 
