@@ -14,6 +14,7 @@ use Rattle.mt_cells.specs.Asks.{cell_by, IsAsked}
 use Rattle.mt_cells.specs.Cells.{InBounds, columns_of}
 use Rattle.mt_derive.specs.Trees.{Tree}
 use Rattle.mt_derive.specs.declared.nodes.Node.{Node}
+use Rattle.mt_derive.specs.Events.{imports_of}
 use Rattle.mt_derive.specs.Built.{IsBuilt}
 use Rattle.mt_derive.specs.Systems.{IsSystemOf, Has}
 use Rattle.mt_derive.proofs.ConcludedLemmas.{tree_same}
@@ -66,19 +67,19 @@ claim_fits b a c system k asked has low =
     (subst (λ (x : Cell). Has x system k) asked.cell_is has) (subst (λ (x : Cell). k ≤ columns_of x) asked.cell_is low)
 
 -- what is built of the node that a table names is what its tree makes, and has the cell's greatest value
-pub built_served : (t : Contents) (c : Cell) (n : ℕ) (a : Matrices) → (s : IsServed t c n) → IsBuilt t.nodes.list t.list n a
-    → IsSystemOf t.list s.concluded.tree a × Has c a s.node.k
+pub built_served : (t : Contents) (c : Cell) (n : ℕ) (a : Matrices) → (s : IsServed t c n) → IsBuilt t.nodes.list (imports_of t.events) n a
+    → IsSystemOf (imports_of t.events) s.concluded.tree a × Has c a s.node.k
 built_served t c n a s built = (
-  subst (λ (x : Tree). IsSystemOf t.list x a) (tree_same t.nodes.list n built.tree s.concluded.tree built.unfolds s.concluded.unfolds) built.made,
+  subst (λ (x : Tree). IsSystemOf (imports_of t.events) x a) (tree_same t.nodes.list n built.tree s.concluded.tree built.unfolds s.concluded.unfolds) built.made,
   subst (λ (x : Cell). Has x a s.node.k) s.cell
       (subst (λ (x : Node). Has x.cell a x.k) (place_same t.nodes.list n built.node s.node built.place s.place) built.has),
 )
 
 -- the text of what is built of the node that the table names
-pub matrix_answer : (t : Contents) (a : Ask) (c : Cell) (n : ℕ) (system : Matrices) (text : List ℕ) → n ≡ place_of t c → (s : IsServed t c n) → IsBuilt t.nodes.list t.list n system
+pub matrix_answer : (t : Contents) (a : Ask) (c : Cell) (n : ℕ) (system : Matrices) (text : List ℕ) → n ≡ place_of t c → (s : IsServed t c n) → IsBuilt t.nodes.list (imports_of t.events) n system
     → text ≡ matrix_text a.kind s.node.k system → IsMatrixText t a c text
 matrix_answer t a c n system text e s built h =
-    subst (λ n. (s : IsServed t c n) → IsBuilt t.nodes.list t.list n system → text ≡ matrix_text a.kind s.node.k system → IsMatrixText t a c text) (sym e)
+    subst (λ n. (s : IsServed t c n) → IsBuilt t.nodes.list (imports_of t.events) n system → text ≡ matrix_text a.kind s.node.k system → IsMatrixText t a c text) (sym e)
     (λ s built h. record {
       served = s;
       system = system;

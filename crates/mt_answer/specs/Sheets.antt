@@ -10,7 +10,7 @@ use Rattle.mt_cells.specs.Cells.{InBounds, number, cells_of}
 use Rattle.mt_cells.specs.Texts.{kind_text}
 use Rattle.mt_derive.specs.Trees.{IsValue}
 use Rattle.mt_derive.specs.Values.{IsSince}
-use Rattle.mt_derive.specs.Imports.{entries_of}
+use Rattle.mt_derive.specs.Events.{entries_of}
 use Rattle.mt_table.specs.Tables.{Contents}
 
 -- the text of these records, each a list of fields
@@ -25,11 +25,11 @@ table_header = codes "s" ∷ codes "net_k" ∷ codes "net_t" ∷ codes "oa_k" �
 -- the fields for s coordinates: the greatest values of the net, the orthogonal array and the sequence, and their t = m - k
 pub record IsTableRecord (t : Contents) (o : Order) (m s : ℕ) (fields : List (List ℕ)) : Type 0 where
   pub net_k : ℕ
-  pub net : IsValue t.bounds t.rules (entries_of t.list) (Ooa o m s m) net_k
+  pub net : IsValue t.bounds t.rules (entries_of t.events) (Ooa o m s m) net_k
   pub oa_k : ℕ
-  pub oa : IsValue t.bounds t.rules (entries_of t.list) (Ooa o m s 1) oa_k
+  pub oa : IsValue t.bounds t.rules (entries_of t.events) (Ooa o m s 1) oa_k
   pub seq_k : ℕ
-  pub seq : IsValue t.bounds t.rules (entries_of t.list) (Seq o m s) seq_k
+  pub seq : IsValue t.bounds t.rules (entries_of t.events) (Seq o m s) seq_k
   pub fields_are : fields ≡ decimal s ∷ decimal net_k ∷ decimal (m - net_k) ∷ decimal oa_k ∷ decimal (m - seq_k) ∷ []
 
 -- a record for each s from 1 to the most coordinates
@@ -49,12 +49,12 @@ abbrev pub cell_fields : Cell → List (List ℕ)
 cell_fields (Ooa o m s depth) = kind_text kind.Ooa ∷ decimal (number_of o) ∷ decimal m ∷ decimal s ∷ decimal depth ∷ []
 cell_fields (Seq o m s) = kind_text kind.Seq ∷ decimal (number_of o) ∷ decimal m ∷ decimal s ∷ decimal m ∷ []
 
--- the fields of a cell: its sizes, its greatest value and the last import that changed it
+-- the fields of a cell: its sizes, its greatest value and the last event that changed it
 pub record IsExportRecord (t : Contents) (c : Cell) (fields : List (List ℕ)) : Type 0 where
   pub k : ℕ
-  pub value : IsValue t.bounds t.rules (entries_of t.list) c k
+  pub value : IsValue t.bounds t.rules (entries_of t.events) c k
   pub since : ℕ
-  pub is_since : IsSince t.bounds t.rules (entries_of t.list) c since
+  pub is_since : IsSince t.bounds t.rules t.events c since
   pub fields_are : fields ≡ cell_fields c ++ decimal k ∷ decimal since ∷ []
 
 -- a record for each cell, in the order of cells

@@ -18,7 +18,7 @@ use std::alloc::{AllocError, Global};
 /// feeds.
 ///
 /// - For a value it is `KIND Q M S: k K, t T, since N, version V`, with the depth behind S for kind
-///   ooa: the value K, `T = m - K`, the last import that changed it, and the number of imports.
+///   ooa: the value K, `T = m - K`, the last event that changed it, and the number of events.
 /// - For a derivation it has a line `NUMBER RULE PARENTS CELL k VALUE` for each node, numbered from
 ///   1, parents first; the last concludes the value. The parents are `-` or numbers.
 /// - For matrices it is the import text, named `mint`, of the system that this derivation makes,

@@ -3,6 +3,7 @@ use Rattle.std.proofs.lemmas.Result.{IfOk-weaker}
 use Rattle.mt_system.specs.Claims.{IsClaim}
 use Rattle.mt_system.specs.Statements.{statement_of}
 use Rattle.mt_import.specs.Canonical.{canonical_text}
+use Rattle.mt_derive.specs.Events.{imports_of}
 use Rattle.mt_derive.specs.Built.{IsBuilt}
 use Rattle.mt_derive.specs.declared.nodes.Node.{Node}
 use Rattle.mt_answer.specs.Texts.{form_of}
@@ -15,7 +16,7 @@ use Rattle.mt_answer.proofs.matrices.matrix_lines.Goals as goal
 pub build-requires-clause-imports : goal.build-requires-clause-imports
 build-requires-clause-imports c =
     let t = c.args.table.now in
-    rw (c.nodes-nodes.ensures.value, c.imports.ensures.list) (imports_shown t.bounds t.rules t.list t.nodes.list c.node_of-n.result c.nodes-nodes.ensures.concluded)
+    rw (c.nodes-nodes.ensures.value, c.imports.ensures.events) (imports_shown t.bounds t.rules t.events t.nodes.list c.node_of-n.result c.nodes-nodes.ensures.concluded)
 
 pub unreachable-requires : goal.unreachable-requires
 unreachable-requires c = absurd (let no = c.in_default.ensures.taken.1 mint_is_name in cc)
@@ -25,7 +26,7 @@ unreachable-requires-in-None c =
     let t = c.args.table.now in
     let a = c.args.ask.now in
     let s = c.node_of-n.ensures.served in
-    let built : IsBuilt t.nodes.list t.list c.node_of-n.result c.in_ok-system.system = rw (c.nodes-nodes.ensures.value, c.imports.ensures.list) at c.in_ok-system.ensures in
+    let built : IsBuilt t.nodes.list (imports_of t.events) c.node_of-n.result c.in_ok-system.system = rw (c.nodes-nodes.ensures.value, c.imports.ensures.events) at c.in_ok-system.ensures in
     let same : s.node ≡ c.get.result = place_same t.nodes.list c.node_of-n.result s.node c.get.result s.place (rw c.nodes-nodes.ensures.value at c.get.ensures.place) in
     let fits : IsClaim (form_of a.kind) s.node.k c.in_ok-system.system =
     claim_fits t.bounds a c.args.cell c.in_ok-system.system s.node.k c.requires (built_served t c.args.cell c.node_of-n.result c.in_ok-system.system s built).1 s.within in
@@ -37,7 +38,7 @@ returns c =
     let t = c.args.table.now in
     let a = c.args.ask.now in
     let s = c.node_of-n.ensures.served in
-    let built : IsBuilt t.nodes.list t.list c.node_of-n.result c.in_ok-system.system = rw (c.nodes-nodes.ensures.value, c.imports.ensures.list) at c.in_ok-system.ensures in
+    let built : IsBuilt t.nodes.list (imports_of t.events) c.node_of-n.result c.in_ok-system.system = rw (c.nodes-nodes.ensures.value, c.imports.ensures.events) at c.in_ok-system.ensures in
     let same : s.node ≡ c.get.result = place_same t.nodes.list c.node_of-n.result s.node c.get.result s.place (rw c.nodes-nodes.ensures.value at c.get.ensures.place) in
     let told : statement_of c.in-Some-new.claim ≡ record { form = form_of a.kind; name = codes "mint"; note = []; k = s.node.k; system = c.in_ok-system.system } =
     cc (c.in-Some-new.ensures.form, c.form_of.ensures, c.in-Some-new.ensures.name, c.in-Some.ensures.value, c.in-Some-new.ensures.note, c.in-Some-new.ensures.strength, same, c.in-Some-new.ensures.system) in
