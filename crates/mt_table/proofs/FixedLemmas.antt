@@ -10,12 +10,12 @@ use Rattle.mt_derive.proofs.TreeLemmas.{IsValue-closed}
 use Rattle.mt_table.specs.declared.work.Work.{Work}
 use Rattle.mt_derive.specs.declared.nodes.Node.{Node}
 use Rattle.mt_derive.specs.Axioms.{IsBestAxiom}
-use Rattle.mt_derive.specs.Imports.{entries_of}
+use Rattle.mt_derive.specs.declared.events.Event.{Event}
+use Rattle.mt_derive.specs.Events.{entries_of}
 use Rattle.mt_derive.specs.Nodes.{IsTreeOf}
 use Rattle.mt_derive.specs.Places.{IsAt}
 use Rattle.mt_table.specs.Works.{value_in, place_in, AreAxioms, AllShown, Propagates}
 use Rattle.mt_table.specs.Fixed.{IsFixed}
-use Rattle.mt_system.specs.Statements.{Statement}
 use Rattle.mt_table.specs.Tables.{IsServed}
 use Rattle.mt_table.proofs.NodeLemmas.{Holds, cell_node, shown_tree, value_within}
 use Rattle.mt_table.proofs.StartLemmas.{axioms_shown}
@@ -40,14 +40,14 @@ fixed v w a s = record {
         rw s.bounds (le_trans (rw y.3 at (y.2.greatest x k says)) (s.values (number v.bounds c)))
 
     closed : IsClosed w.bounds w.rules [] (value_in w)
-    closed = record { axioms = held; imports = λ n h i. absurd (omega arith); done = s.done }
+    closed = record { axioms = held; imports = λ n h i l. absurd (omega arith); done = s.done }
 
 -- ---- answers
 
 -- the table's node of a cell is what it should be
-pub served : (w : Work) (L : List Statement) (c : Cell) → IsFixed w (entries_of L) → InBounds w.bounds c
-    → IsServed (record { bounds = w.bounds; rules = w.rules; list = L; nodes = w.nodes; places = w.places.items }) c (place_in w c)
-served w L c f h =
+pub served : (w : Work) (E : List Event) (c : Cell) → IsFixed w (entries_of E) → InBounds w.bounds c
+    → IsServed (record { bounds = w.bounds; rules = w.rules; events = E; nodes = w.nodes; places = w.places.items }) c (place_in w c)
+served w E c f h =
     let x : Holds w.nodes.list (place_in w c) c (value_in w c) = cell_node w c h in
     record {
       node = x.0;

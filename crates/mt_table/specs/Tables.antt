@@ -1,6 +1,5 @@
 -- What a table is to its callers.
 use Rattle.std.specs.Prelude.{◌≡◌, ℕ, ◌≤◌, List, get_or}
-use Rattle.mt_system.specs.Statements.{Statement}
 use Rattle.mt_cells.specs.declared.bounds.Bounds.{Bounds}
 use Rattle.mt_cells.specs.declared.cells.Cell.{Cell}
 use Rattle.mt_cells.specs.declared.rules.RuleSet.{RuleSet}
@@ -8,15 +7,16 @@ use Rattle.mt_cells.specs.Cells.{columns_of, number}
 use Rattle.mt_derive.specs.Trees.{IsValue}
 use Rattle.mt_derive.specs.declared.nodes.Node.{Node}
 use Rattle.mt_derive.specs.Concluded.{IsConcluded}
-use Rattle.mt_derive.specs.Imports.{entries_of}
+use Rattle.mt_derive.specs.declared.events.Event.{Event}
+use Rattle.mt_derive.specs.Events.{entries_of}
 use Rattle.mt_derive.specs.Nodes.{NodeList}
 use Rattle.mt_derive.specs.Places.{IsAt}
 
--- a table over a list of imports: the nodes of its derivations, and the number of a node for each cell, by the cell's number
+-- a table over a list of events: the nodes of its derivations, and the number of a node for each cell, by the cell's number
 pub record Contents : Type 0 where
   pub bounds : Bounds
   pub rules : RuleSet
-  pub list : List Statement
+  pub events : List Event
   pub nodes : NodeList
   pub places : List ℕ
 
@@ -29,6 +29,6 @@ pub record IsServed (t : Contents) (c : Cell) (n : ℕ) : Type 0 where
   pub node : Node
   pub place : IsAt t.nodes.list n node
   pub cell : node.cell ≡ c
-  pub value : IsValue t.bounds t.rules (entries_of t.list) c node.k
+  pub value : IsValue t.bounds t.rules (entries_of t.events) c node.k
   pub within : node.k ≤ columns_of c
-  pub concluded : IsConcluded t.bounds t.rules (entries_of t.list) t.nodes.list n node
+  pub concluded : IsConcluded t.bounds t.rules (entries_of t.events) t.nodes.list n node

@@ -25,15 +25,15 @@ impl Model for Table {
     ghost view = { λ t. record {
       bounds = t.work.bounds;
       rules = t.work.rules;
-      list = t.imports.list;
+      events = t.imports.events;
       nodes = t.work.nodes;
       places = t.work.places.items;
     } };
 
-    ghost use Rattle.mt_derive.specs.Imports.{entries_of};
+    ghost use Rattle.mt_derive.specs.Events.{entries_of};
 
-    ghost invariant = { λ t. IsFixed t.work (entries_of t.imports.list)
-        × (t.imports.bounds ≡ t.work.bounds) × (t.imports.list ≡ []) };
+    ghost invariant = { λ t. IsFixed t.work (entries_of t.imports.events)
+        × (t.imports.bounds ≡ t.work.bounds) × (t.imports.events ≡ []) };
 }
 
 impl Table {
@@ -42,7 +42,7 @@ impl Table {
     ghost use Rattle.mt_derive.specs.Trees.{IsValue};
     ghost use Rattle.mt_derive.specs.Values.{IsScore, IsSince};
     ghost use Rattle.mt_derive.specs.Concluded.{AllConclude};
-    ghost use Rattle.mt_derive.specs.Imports.{entries_of};
+    ghost use Rattle.mt_derive.specs.Events.{entries_of};
     ghost use Rattle.mt_table.specs.Tables.{place_of, IsServed};
 
     /// The table without imports. It takes all its room at once, for 1,024 imports and every node
@@ -55,7 +55,7 @@ impl Table {
     ) -> Result<Table, AllocError>
         ensures bounds { IfOk result (λ t. t.bounds ≡ bounds) }
         ensures rules { IfOk result (λ t. t.rules ≡ rules) }
-        ensures list { IfOk result (λ t. t.list ≡ []) }
+        ensures events { IfOk result (λ t. t.events ≡ []) }
     {
         let imports = Imports::with_room(alloc, bounds)?;
         let mut work = Work::new(alloc, bounds, rules)?;
@@ -83,7 +83,7 @@ impl Table {
     /// The accepted imports.
     pub fn imports(&self) -> &Imports
         ensures bounds { result.now.bounds ≡ self.now.bounds }
-        ensures list { result.now.list ≡ self.now.list }
+        ensures events { result.now.events ≡ self.now.events }
     {
         &self.imports
     }
@@ -91,7 +91,7 @@ impl Table {
     /// The nodes of the derivations.
     pub fn nodes(&self) -> &Nodes
         ensures value { result.now ≡ self.now.nodes }
-        ensures concluded { AllConclude self.now.bounds self.now.rules (entries_of self.now.list)
+        ensures concluded { AllConclude self.now.bounds self.now.rules (entries_of self.now.events)
             self.now.nodes.list }
     {
         &self.work.nodes
@@ -110,15 +110,15 @@ impl Table {
     /// The greatest strength, or `m - t` for a sequence, that a derivation concludes for the cell.
     pub fn value(&self, cell: Cell) -> u8
         requires { InBounds self.now.bounds cell }
-        ensures { IsValue self.now.bounds self.now.rules (entries_of self.now.list) cell result }
+        ensures { IsValue self.now.bounds self.now.rules (entries_of self.now.events) cell result }
     {
         self.work.value(cell)
     }
 
-    /// The last import at which the value of the cell changed, counted from 1, or 0.
+    /// The last event at which the value of the cell changed, counted from 1, or 0.
     pub fn since(&self, cell: Cell) -> u32
         requires { InBounds self.now.bounds cell }
-        ensures { IsSince self.now.bounds self.now.rules (entries_of self.now.list) cell result }
+        ensures { IsSince self.now.bounds self.now.rules self.now.events cell result }
     {
         let _ = &self.work;
         let _ = cell;
@@ -127,15 +127,15 @@ impl Table {
 
     /// The sum of the values of all cells.
     pub fn score(&self) -> u64
-        ensures { IsScore self.now.bounds self.now.rules (entries_of self.now.list) result }
+        ensures { IsScore self.now.bounds self.now.rules (entries_of self.now.events) result }
     {
         self.work.sum()
     }
 
-    /// How many imports were accepted.
+    /// How many events were accepted.
     pub fn version(&self) -> u32
-        ensures { result ≡ length self.now.list }
+        ensures { result ≡ length self.now.events }
     {
-        self.imports.len()
+        self.imports.events()
     }
 }
