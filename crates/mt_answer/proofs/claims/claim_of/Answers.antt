@@ -1,6 +1,7 @@
 use Rattle.std.proofs.Common.{◌≡◌, [], codes, ap, sym, ◌∙◌, subst}
 use Rattle.mt_system.specs.Claims.{IsClaim}
 use Rattle.mt_system.specs.Statements.{statement_of}
+use Rattle.mt_derive.specs.Events.{imports_of}
 use Rattle.mt_derive.specs.Built.{IsBuilt}
 use Rattle.mt_derive.specs.declared.nodes.Node.{Node}
 use Rattle.mt_answer.specs.Facts.{form_of}
