@@ -202,7 +202,7 @@ pub(crate) fn table_of<L: Ledger>(
     requires some { 0 < L.parts }
     ensures bounds { IfOk result (λ t. t.bounds ≡ bounds) }
     ensures rules { IfOk result (λ t. (rule : Rule) → has_rule t.rules rule ≡ true) }
-    ensures list { IfOk result (λ t. t.list ≡ []) }
+    ensures events { IfOk result (λ t. t.events ≡ []) }
 {
     let mut steps = Steps::<L>::of(blank);
     Table::new(alloc, bounds, RuleSet::all(), &mut steps)

@@ -1,5 +1,5 @@
 use Rattle.std.proofs.Common.{List, inr, refl, subst}
-use Rattle.mt_system.specs.Statements.{Statement}
+use Rattle.mt_derive.specs.declared.events.Event.{Event}
 use Rattle.mt_cells.specs.declared.bounds.Bounds.{Bounds}
 use Rattle.mt_answer.specs.Answers.{IsTextFor}
 use Rattle.mint.proofs.command.answered.Goals as goal
@@ -9,5 +9,5 @@ returns-clause-answer c =
     let table = c.in_ok-table.table in
     let question = c.args.question.now in
     let text = c.in_ok-text.field-0.items in
-    let here = subst (λ (b : Bounds). IsTextFor b table.rules table.list question text) c.in_ok-table.ensures.bounds c.in_ok-text.ensures in
-    inr (c.in_default.ensures, refl, (table.rules, c.in_ok-table.ensures.rules, subst (λ (L : List Statement). IsTextFor c.args.bounds table.rules L question text) c.in_ok-table.ensures.list here))
+    let here = subst (λ (b : Bounds). IsTextFor b table.rules table.events question text) c.in_ok-table.ensures.bounds c.in_ok-text.ensures in
+    inr (c.in_default.ensures, refl, (table.rules, c.in_ok-table.ensures.rules, subst (λ (E : List Event). IsTextFor c.args.bounds table.rules E question text) c.in_ok-table.ensures.events here))
