@@ -13,7 +13,7 @@ use Rattle.mt_derive.specs.Trees.{Axiom, zero_rows, constant, identity, parity, 
 use Rattle.mt_derive.specs.declared.nodes.Made.{Made}
 use Rattle.mt_derive.specs.declared.nodes.Made.TheVariants as made
 use Rattle.mt_derive.specs.declared.nodes.Node.{Node}
-use Rattle.mt_derive.specs.Events.{entries_of, imports_of}
+use Rattle.mt_derive.specs.Events.{entries_of}
 use Rattle.mt_derive.specs.Nodes.{made_of, IsTreeOf, IsRight, IsParent, Reaches, ReachesBy, AreReached}
 use Rattle.mt_derive.specs.Concluded.{IsConcluded, AllConclude}
 use Rattle.mt_derive.specs.Places.{IsAt}

@@ -12,9 +12,9 @@ use Rattle.mt_cells.specs.declared.asks.Ask.{Ask}
 use Rattle.mt_cells.specs.declared.asks.Question.TheVariants.{Value}
 use Rattle.mt_cells.specs.Asks.{cell_by, IsAsked}
 use Rattle.mt_cells.proofs.CellLemmas.{order_same}
-use Rattle.mt_derive.specs.Trees.{Entry, IsValue}
+use Rattle.mt_derive.specs.Trees.{IsValue}
 use Rattle.mt_derive.specs.Values.{IsSince}
-use Rattle.mt_derive.specs.Events.{entries_of, imports_of}
+use Rattle.mt_derive.specs.Events.{entries_of}
 use Rattle.mt_derive.proofs.TreeLemmas.{IsValue-unique}
 use Rattle.mt_answer.specs.declared.facts.Facts.{Facts}
 use Rattle.mt_answer.specs.declared.facts.Fact.{Fact}

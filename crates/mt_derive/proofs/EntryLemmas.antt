@@ -1,20 +1,18 @@
 -- The entries of lists of events, and trees over lists that keep each other's live entries.
-use Rattle.std.proofs.Common.{◌≡◌, ◌≢◌, ℕ, zero, suc, ◌+◌, ◌-◌, ◌<◌, ◌≤◌, Bool, true, false, IsTrue, Option, Some, None, List, [], ◌∷◌, ◌++◌, length, length-append, inl, inr, take, get_or, refl, sym, ap, ap₂, ◌∙◌, subst, arith}
+use Rattle.std.proofs.Common.{◌≡◌, ◌≢◌, ℕ, zero, suc, ◌+◌, ◌-◌, ◌≤◌, true, false, IsTrue, List, [], ◌∷◌, ◌++◌, length, length-append, inl, inr, get_or, refl, sym, ap, ap₂, ◌∙◌, subst, arith}
 use Rattle.std.proofs.lemmas.Bool.{cases_eq}
 use Rattle.mt_system.specs.Statements.{Statement}
 use Rattle.mt_cells.specs.declared.bounds.Bounds.{Bounds}
 use Rattle.mt_cells.specs.declared.cells.Cell.{Cell}
-use Rattle.mt_cells.specs.declared.rules.Rule.{Rule}
 use Rattle.mt_cells.specs.declared.rules.RuleSet.{RuleSet}
 use Rattle.mt_cells.specs.Cells.{InBounds}
-use Rattle.mt_cells.specs.Rules.{conclusion, pair_conclusion, least_parent}
-use Rattle.mt_cells.specs.Instances.{IsInstance}
+use Rattle.mt_cells.specs.Rules.{conclusion}
 use Rattle.mt_derive.specs.declared.events.Event.{Event}
 use Rattle.mt_derive.specs.declared.events.Event.TheVariants.{Import, Withdraw}
 use Rattle.mt_derive.specs.Events.{imports_of, is_live, IsLive, entry_of, entries_from, entries_of}
 use Rattle.mt_derive.specs.Places.{IsAt}
-use Rattle.mt_derive.specs.Trees.{Axiom, Says, Entry, no_entry, entry_at, Tree, axiom_at, imported, one, two, cell_of, value_of, step, IsTree, Concludes, IsValue}
-use Rattle.mt_derive.proofs.PlaceLemmas.{place_some, place_below, place_push, place_last, place_same}
+use Rattle.mt_derive.specs.Trees.{Axiom, Says, Entry, no_entry, entry_at, Tree, axiom_at, imported, one, two, cell_of, value_of, IsTree, Concludes, IsValue}
+use Rattle.mt_derive.proofs.PlaceLemmas.{place_some, place_last}
 use Rattle.mt_derive.proofs.EventLemmas.{imports_append, imports_withdraw, live_import, live_withdraw_other, live_withdrawn}
 
 -- ---- entries

@@ -1,5 +1,5 @@
 -- A tree that concludes a value over imports that hold, of whole systems, has a system.
-use Rattle.std.proofs.Common.{ℕ, suc, ◌-◌, ◌==◌, cond, ltb, List, length, refl, arith}
+use Rattle.std.proofs.Common.{ℕ, suc, ◌-◌, ◌==◌, cond, ltb, List, refl, arith}
 use Rattle.mt_linear.specs.declared.order.Order.{Order}
 use Rattle.mt_linear.specs.Field.{number_of}
 use Rattle.mt_linear.proofs.FieldLaws.{number_pos, one_below}

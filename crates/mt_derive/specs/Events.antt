@@ -1,5 +1,5 @@
 -- Lists of events: imports of claims, and withdrawals of imports by their number, counted from 1.
-use Rattle.std.specs.Prelude.{◌≢◌, ℕ, suc, ◌-◌, ◌<◌, ◌≤◌, ◌==◌, Bool, false, not, IsTrue, List, [], ◌∷◌, length, take, All}
+use Rattle.std.specs.Prelude.{ℕ, suc, ◌<◌, ◌≤◌, ◌==◌, Bool, false, not, IsTrue, List, [], ◌∷◌, length, take}
 use Rattle.std.specs.List.{list_any}
 use Rattle.mt_system.specs.Statements.{Statement}
 use Rattle.mt_cells.specs.declared.bounds.Bounds.{Bounds}

@@ -1,6 +1,6 @@
 //! A feed that writes lines.
 ghost use Rattle.std.specs.Prelude.{◌≡◌, ◌≢◌, ◌↔◌, [], IsTrue};
-ghost use Rattle.mt_io.specs.Adapters.{CountsFaults};
+ghost use Rattle.mt_io.specs.Counts.{CountsFaults};
 ghost use Rattle.mt_io.specs.Faults.{HasCause};
 ghost use Rattle.mt_io.specs.Streams.{Appends};
 ghost use Rattle.mt_feed.specs.Lines.{change_line};

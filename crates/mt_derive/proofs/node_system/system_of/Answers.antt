@@ -1,4 +1,4 @@
-use Rattle.std.proofs.Common.{◌≡◌, ◌-◌, None, Some, take, sym, ap, ◌∙◌, subst, arith}
+use Rattle.std.proofs.Common.{◌≡◌, ◌-◌, None, Some, take, sym, ◌∙◌, subst, arith}
 use Rattle.mt_system.specs.Statements.{Statement, statement_of}
 use Rattle.mt_derive.specs.Trees.{Axiom}
 use Rattle.mt_derive.specs.declared.nodes.Node.{Node}

@@ -1,5 +1,4 @@
-use Rattle.std.proofs.Common.{◌≡◌, ◌∙◌, take, sym, ap, subst}
-use Rattle.mt_derive.specs.declared.events.Event.{Event}
+use Rattle.std.proofs.Common.{◌≡◌, ◌∙◌, take, sym, ap}
 use Rattle.mt_derive.specs.declared.events.Event.TheVariants.{Import, Withdraw}
 use Rattle.mt_derive.specs.Events.{Follows}
 use Rattle.mt_derive.specs.Imports.{ImportList}

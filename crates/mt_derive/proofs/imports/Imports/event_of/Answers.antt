@@ -1,4 +1,4 @@
-use Rattle.std.proofs.Common.{◌≡◌, ◌-◌, ◌∙◌, length, sym, ap, subst, arith}
+use Rattle.std.proofs.Common.{◌≡◌, ◌-◌, length, ap, subst, arith}
 use Rattle.mt_derive.specs.declared.events.Event.TheVariants.{Import, Withdraw}
 use Rattle.mt_derive.specs.Imports.{ImportList}
 use Rattle.mt_derive.specs.Places.{IsAt}

@@ -1,11 +1,10 @@
-use Rattle.std.proofs.Common.{◌≡◌, ◌+◌, ◌<◌, ◌∙◌, List, length, take, sym, ap, subst, arith}
-use Rattle.std.proofs.lemmas.List.{length_push, take_all}
+use Rattle.std.proofs.Common.{◌≡◌, ◌+◌, ◌<◌, ◌∙◌, length, take, ap, subst, arith}
+use Rattle.std.proofs.lemmas.List.{length_push}
 use Rattle.std.proofs.lemmas.List.Elements.{All-push}
 use Rattle.mt_system.specs.Statements.{Statement}
-use Rattle.mt_derive.specs.declared.events.Event.{Event}
 use Rattle.mt_derive.specs.declared.events.Event.TheVariants.{Import}
 use Rattle.mt_derive.specs.Events.{imports_of}
-use Rattle.mt_derive.specs.Imports.{ImportList, LacksName, IsNamed}
+use Rattle.mt_derive.specs.Imports.{ImportList, IsNamed}
 use Rattle.mt_derive.specs.Places.{IsAt}
 use Rattle.mt_derive.proofs.PlaceLemmas.{place_get, place_below}
 use Rattle.mt_derive.proofs.EventLemmas.{import_place, event_here, more_import, more_other, named_here}

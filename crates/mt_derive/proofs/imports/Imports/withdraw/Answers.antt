@@ -1,7 +1,5 @@
-use Rattle.std.proofs.Common.{false, ◌≡◌, ◌-◌, List, [], ◌∷◌, ◌++◌, length, sym, ap, subst, arith}
-use Rattle.std.proofs.Math.ListN.{set}
+use Rattle.std.proofs.Common.{false, ◌-◌, sym, subst, arith}
 use Rattle.std.proofs.lemmas.List.{length-set}
-use Rattle.mt_derive.specs.declared.events.Event.{Event}
 use Rattle.mt_derive.specs.declared.events.Event.TheVariants.{Withdraw}
 use Rattle.mt_derive.specs.Events.{IsLive}
 use Rattle.mt_derive.specs.Imports.{ImportList}

@@ -1,4 +1,4 @@
-use Rattle.std.proofs.Common.{length, arith, length-take}
+use Rattle.std.proofs.Common.{arith, length-take}
 use Rattle.mt_derive.specs.declared.nodes.Node.{Node}
 use Rattle.mt_derive.proofs.NodeLemmas.{all_right-take}
 use Rattle.mt_derive.proofs.nodes.Nodes.keep.Goals as goal
