@@ -1,5 +1,10 @@
-pub mod NodeLemmas
-pub mod WorkLemmas
-pub mod LineLemmas
-pub mod FixedLemmas
-pub mod StartLemmas
+mod NodeLemmas
+mod StartLemmas
+mod LineLemmas
+mod WorkLemmas
+mod StepLemmas
+mod FixedLemmas
+mod ListLemmas
+mod SinceLemmas
+mod MarkLemmas
+mod LawLemmas

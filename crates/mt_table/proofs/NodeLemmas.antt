@@ -144,6 +144,8 @@ room_by b nodes values c k node h count l top old = (
     are = old.are;
     low = low;
     room = omega (arith, length-append nodes.list (node ∷ []), sums, old.room);
+    whole = old.whole;
+    many = omega (arith, length-append nodes.list (node ∷ []), old.many);
   },
 )
   where
@@ -183,7 +185,17 @@ low_by v r t p q h leads = conclusion_within v.bounds r t p q (value_in v p) (va
 pub conclusion_fits : (v : Work) (i : Instance) (k : ℕ) → IsInstance v.bounds v.rules i → k ≡ conclusion_of i (value_in v i.first) (value_in v (second_of i)) → k ≤ columns_of i.target
 conclusion_fits v i k h e = rw e (low_by v i.rule i.target i.first i.second h.first h.leads)
 
--- ---- flags
+-- there are the nodes of the axioms
+pub cells_few : (v : Work) → cells_of v.bounds ≤ length v.nodes.list
+cells_few v = ∥∥₁_elim v.roomy le_prop (λ r. r.many)
+
+-- ---- values and flags
+
+pub set_high : (values : List ℕ) (n k most : ℕ) → n < length values → ((j : ℕ) → get_or values j 0 ≤ most) → k ≤ most → (j : ℕ) → get_or (set values n k) j 0 ≤ most
+set_high values n k most h low high j = ⊎_elim
+    (λ (e : j ≡ n). rw (e, get_or-set_same values n k 0 h) high)
+    (λ (ne : j ≢ n). rw (get_or-set_other values n j k 0 ne) (low j))
+    (cases_eq j n)
 
 -- no cell waits before the first that did or does now
 pub none_before : (flags : List Bool) (from n low : ℕ) → low ≤ from → low ≤ n → NoneBefore flags from → NoneBefore (set flags n true) low

@@ -11,12 +11,13 @@ use Rattle.mt_cells.specs.Instances.{IsInstance, HasParent, conclusion_of}
 use Rattle.mt_cells.specs.Instances.{second_or}
 use Rattle.mt_derive.specs.Closed.{second_of, IsDone}
 use Rattle.mt_derive.specs.Trees.{Entry}
+use Rattle.mt_derive.specs.declared.nodes.Node.{Node}
 use Rattle.mt_cells.proofs.CellLemmas.{number_below, number_apart}
 use Rattle.mt_cells.proofs.SpotLemmas.{inside}
-use Rattle.mt_derive.proofs.ConcludedLemmas.{conclude_push}
+use Rattle.mt_derive.proofs.ConcludedLemmas.{conclude_push, place_longer}
 use Rattle.mt_table.specs.declared.work.Work.{Work}
 use Rattle.mt_table.specs.Shapes.{sum_of}
-use Rattle.mt_table.specs.Works.{value_in, AllShown, AllDone, IsFlagged, IsIdle, IsPropagated, AllPropagated, waiting, Grows, node_by, IsRaised, IsTaken, IsOver, Rises, Propagates}
+use Rattle.mt_table.specs.Works.{value_in, AllShown, AllDone, IsFlagged, IsIdle, IsPropagated, AllPropagated, waiting, Grows, node_by, IsPut, AllStay, IsRaised, IsTaken, IsOver, Rises, Propagates}
 use Rattle.mt_table.proofs.NodeLemmas.{node_concludes}
 
 -- ---- growth
@@ -35,6 +36,7 @@ grows_trans u v w a b = record {
       (λ (e : get_or w.flags.items n false ≡ true). inr e)
       (b.changed n);
   rise = omega (arith, a.rise, b.rise);
+  nodes = λ n node at. b.nodes n node (a.nodes n node at);
   shown = λ L h. b.shown L (a.shown L h);
 }
 
@@ -58,14 +60,45 @@ values_low w c h = rw w.shaped.0 (number_below w.bounds c h)
 flags_low : (w : Work) (c : Cell) → InBounds w.bounds c → number w.bounds c < length w.flags.items
 flags_low w c h = rw w.shaped.1 (number_below w.bounds c h)
 
+put_value : (v w : Work) (node : Node) → InBounds v.bounds node.cell → IsPut v w node → get_or w.values.items (number v.bounds node.cell) 0 ≡ node.k
+put_value v w node h r = rw r.values (get_or-set_same v.values.items (number v.bounds node.cell) node.k 0 (values_low v node.cell h))
+
+put_other : (v w : Work) (node : Node) (n : ℕ) → IsPut v w node → n ≢ number v.bounds node.cell → get_or w.values.items n 0 ≡ get_or v.values.items n 0
+put_other v w node n r ne = rw r.values (get_or-set_other v.values.items (number v.bounds node.cell) n node.k 0 ne)
+
+put_flag : (v w : Work) (node : Node) → InBounds v.bounds node.cell → IsPut v w node → get_or w.flags.items (number v.bounds node.cell) false ≡ true
+put_flag v w node h r = rw r.flags (get_or-set_same v.flags.items (number v.bounds node.cell) true false (flags_low v node.cell h))
+
+pub put_values : (v w : Work) (node : Node) → InBounds v.bounds node.cell → value_in v node.cell < node.k → IsPut v w node → (n : ℕ) → get_or v.values.items n 0 ≤ get_or w.values.items n 0
+put_values v w node h l r n = ⊎_elim
+    (λ (e : n ≡ number v.bounds node.cell). rw (e, put_value v w node h r) (omega arith))
+    (λ (ne : n ≢ number v.bounds node.cell). rw (put_other v w node n r ne) (omega arith))
+    (cases_eq n (number v.bounds node.cell))
+
+pub put_held : (v w : Work) (node : Node) → InBounds v.bounds node.cell → IsPut v w node → node.k ≤ value_in w node.cell
+put_held v w node h r = rw (r.bounds, put_value v w node h r) (omega arith)
+
+pub put_stays : (v w : Work) (node : Node) → IsPut v w node → AllStay v.nodes.list w.nodes.list
+put_stays v w node r n x at = rw r.nodes (place_longer v.nodes.list (node ∷ []) n x at)
+
+-- an instance that was done is propagated where a value rose
+pub propagated_put : (v w : Work) (node : Node) (i : Instance) → InBounds v.bounds node.cell → value_in v node.cell < node.k → IsPut v w node → IsDone (value_in v) i → IsPropagated w i
+propagated_put v w node i h l r d = rw r.bounds (⊎_elim
+    (λ (e : number v.bounds i.first ≡ number v.bounds node.cell). inr (inl (rw e (put_flag v w node h r))))
+    (λ (ne : number v.bounds i.first ≢ number v.bounds node.cell). ⊎_elim
+    (λ (e : number v.bounds (second_of i) ≡ number v.bounds node.cell). inr (inr (rw e (put_flag v w node h r))))
+    (λ (me : number v.bounds (second_of i) ≢ number v.bounds node.cell). inl (rw (put_other v w node (number v.bounds i.first) r ne, put_other v w node (number v.bounds (second_of i)) r me) (le_trans d (put_values v w node h l r (number v.bounds i.target)))))
+    (cases_eq (number v.bounds (second_of i)) (number v.bounds node.cell)))
+    (cases_eq (number v.bounds i.first) (number v.bounds node.cell)))
+
 raised_value : (v w : Work) (i : Instance) (k : ℕ) → InBounds v.bounds i.target → IsRaised v w i k → get_or w.values.items (number v.bounds i.target) 0 ≡ k
-raised_value v w i k h r = rw r.values (get_or-set_same v.values.items (number v.bounds i.target) k 0 (values_low v i.target h))
+raised_value v w i k h r = put_value v w (node_by v i k) h r
 
 other_value : (v w : Work) (i : Instance) (k n : ℕ) → IsRaised v w i k → n ≢ number v.bounds i.target → get_or w.values.items n 0 ≡ get_or v.values.items n 0
-other_value v w i k n r ne = rw r.values (get_or-set_other v.values.items (number v.bounds i.target) n k 0 ne)
+other_value v w i k n r ne = put_other v w (node_by v i k) n r ne
 
 raised_flag : (v w : Work) (i : Instance) (k : ℕ) → InBounds v.bounds i.target → IsRaised v w i k → get_or w.flags.items (number v.bounds i.target) false ≡ true
-raised_flag v w i k h r = rw r.flags (get_or-set_same v.flags.items (number v.bounds i.target) true false (flags_low v i.target h))
+raised_flag v w i k h r = put_flag v w (node_by v i k) h r
 
 other_flag : (v w : Work) (i : Instance) (k n : ℕ) → IsRaised v w i k → n ≢ number v.bounds i.target → get_or w.flags.items n false ≡ get_or v.flags.items n false
 other_flag v w i k n r ne = rw r.flags (get_or-set_other v.flags.items (number v.bounds i.target) n true false ne)
@@ -98,6 +131,7 @@ grows_raised v w i j g k h ej eg ek l r = record {
       (λ (ne : n ≢ number v.bounds i.target). inl (other_value v w i k n r ne))
       (cases_eq n (number v.bounds i.target));
   rise = raised_rise v w i k t l r;
+  nodes = put_stays v w (node_by v i k) r;
   shown = raised_shown v w i k h (rw (ej, eg) at ek) (omega arith) r;
 }
   where
@@ -172,7 +206,7 @@ sum_high (v ∷ values) h =
     let e : sum_of (v ∷ values) ≡ v + sum_of values = sum_by-cons (λ x. x) v values in
     omega (arith, e)
 
-taken_waiting : (flags : List Bool) (n : ℕ) → n < length flags → get_or flags n false ≡ true → waiting (set flags n false) + 1 ≡ waiting flags
+pub taken_waiting : (flags : List Bool) (n : ℕ) → n < length flags → get_or flags n false ≡ true → waiting (set flags n false) + 1 ≡ waiting flags
 taken_waiting flags n h e =
     let q : waiting (set flags n false) + cond (get_or flags n false) 1 0 ≡ waiting flags + 0 = sum_by-set (λ f. cond f 1 0) flags n false false h in
     let r : cond {A = ℕ} (get_or flags n false) 1 0 ≡ 1 = rw e refl in
@@ -197,8 +231,12 @@ rises_step o v u w n r t g = record {
   bounds = g.bounds ∙ t.bounds ∙ r.bounds;
   rules = g.rules ∙ t.rules ∙ r.rules;
   values = λ k. le_trans (r.values k) (rw t.values at (g.values k));
+  nodes = λ k node at. g.nodes k node (rw t.nodes (r.nodes k node at));
   shown = λ L h. g.shown L (rw (t.bounds, t.rules, t.nodes) (r.shown L h));
 }
+
+pub rises_refl : (v : Work) → Rises v v
+rises_refl v = record { bounds = refl; rules = refl; values = λ n. omega arith; nodes = λ n node at. at; shown = λ L h. h }
 
 -- nothing waits any more
 pub propagates : (o v w : Work) → AllPropagated v → Rises o v → IsOver v w → Propagates o w
@@ -206,6 +244,7 @@ propagates o v w all r h = record {
   bounds = h.bounds ∙ r.bounds;
   rules = h.rules ∙ r.rules;
   values = λ n. rw h.values (r.values n);
+  nodes = λ n node at. rw h.nodes (r.nodes n node at);
   shown = λ L k. rw (h.bounds, h.rules, h.nodes) (r.shown L k);
   done = done_at_end w (rw (h.bounds, h.rules, h.values, h.flags) all) h.idle;
   idle = h.idle;

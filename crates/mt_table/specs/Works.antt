@@ -1,25 +1,24 @@
 -- Internal: a reader need not believe this.
 -- What the rules do to the values of cells.
-use Rattle.std.specs.Prelude.{◌≡◌, ℕ, ◌+◌, ◌<◌, ◌≤◌, ◌⊎◌, Bool, true, false, cond, Option, None, Some, List, [], ◌∷◌, ◌++◌, length, get_or, slice_set}
+use Rattle.std.specs.Prelude.{◌≡◌, ℕ, ◌+◌, ◌*◌, ◌<◌, ◌≤◌, ◌⊎◌, Bool, true, false, cond, Option, None, Some, List, [], ◌∷◌, ◌++◌, length, get_or, slice_set}
 use Rattle.std.specs.List.{sum_by}
-use Rattle.mt_cells.specs.declared.bounds.Bounds.{Bounds}
 use Rattle.mt_cells.specs.declared.cells.Cell.{Cell}
 use Rattle.mt_cells.specs.declared.instances.Instance.{Instance}
-use Rattle.mt_cells.specs.Cells.{InBounds, number, cells_of}
+use Rattle.mt_cells.specs.Cells.{number, cells_of}
 use Rattle.mt_cells.specs.declared.lines.Line.{Line}
-use Rattle.mt_cells.specs.Instances.{IsInstance, HasParent}
+use Rattle.mt_cells.specs.Instances.{IsInstance, HasParent, fan_of}
 use Rattle.mt_cells.specs.Spots.{IsSpot, IsRightLine, instance_at}
 use Rattle.mt_derive.specs.Closed.{second_of, IsDone}
-use Rattle.mt_derive.specs.Trees.{Entry}
+use Rattle.mt_derive.specs.Trees.{Entry, imported, Concludes}
 use Rattle.mt_derive.specs.declared.nodes.Made.{Made}
 use Rattle.mt_derive.specs.declared.nodes.Made.TheVariants as made
 use Rattle.mt_cells.specs.declared.rules.Rule.{Rule}
 use Rattle.mt_derive.specs.declared.nodes.Node.{Node}
-use Rattle.mt_derive.specs.Axioms.{IsBestAxiom}
 use Rattle.mt_derive.specs.Concluded.{AllConclude}
 use Rattle.mt_derive.specs.Places.{IsAt}
 use Rattle.mt_table.specs.declared.work.Work.{Work}
 use Rattle.mt_table.specs.Shapes.{sum_of}
+use Rattle.mt_table.specs.Starts.{StartsWithAxioms, AreSet}
 
 -- ---- the values
 
@@ -33,13 +32,6 @@ value_in w c = get_or w.values.items (number w.bounds c) 0
 -- the number of the cell's node
 abbrev pub place_in : Work → Cell → ℕ
 place_in w c = get_or w.places.items (number w.bounds c) 0
-
--- the n nodes are those of the cells before number n, each with the best axiom of its cell
-pub record AreAxioms (b : Bounds) (nodes : List Node) (values places : List ℕ) (n : ℕ) : Type 0 where
-  pub count : length nodes ≡ n
-  pub best : (j : ℕ) (node : Node) → IsAt nodes j node → (c : Cell) × InBounds b c × IsBestAxiom c node
-  pub cells : (c : Cell) → InBounds b c → number b c < n
-      → (node : Node) × IsAt nodes (get_or places (number b c) 0) node × IsBestAxiom c node × (node.k ≡ get_or values (number b c) 0)
 
 -- each node unfolds to a tree that concludes what the node shows
 abbrev pub AllShown : Work → List Entry → Type 0
@@ -81,6 +73,10 @@ ParentPropagated v c w = (i : Instance) → IsInstance v.bounds v.rules i → Ha
 abbrev pub waiting : List Bool → ℕ
 waiting flags = sum_by (λ f. cond f 1 0) flags
 
+-- the nodes stay where they stand
+abbrev pub AllStay : List Node → List Node → Type 0
+AllStay nodes more = (n : ℕ) (node : Node) → IsAt nodes n node → IsAt more n node
+
 -- values rise, and what rises waits
 pub record Grows (v w : Work) : Type 0 where
   pub bounds : w.bounds ≡ v.bounds
@@ -89,6 +85,7 @@ pub record Grows (v w : Work) : Type 0 where
   pub flags : (n : ℕ) → get_or v.flags.items n false ≡ true → get_or w.flags.items n false ≡ true
   pub changed : (n : ℕ) → (get_or w.values.items n 0 ≡ get_or v.values.items n 0) ⊎ (get_or w.flags.items n false ≡ true)
   pub rise : sum_of v.values.items + waiting w.flags.items ≤ sum_of w.values.items + waiting v.flags.items
+  pub nodes : AllStay v.nodes.list w.nodes.list
   pub shown : (L : List Entry) → AllShown v L → AllShown w L
 
 -- the rule with its parents' numbers
@@ -104,13 +101,17 @@ made_of v i = made_by i.rule i.second (place_in v i.first) (place_in v (second_o
 abbrev pub node_by : Work → Instance → ℕ → Node
 node_by v i k = record { made = made_of v i; cell = i.target; k = k }
 
--- the value of the instance's target is k now, by one more node, and the target waits
-pub record IsRaised (v w : Work) (i : Instance) (k : ℕ) : Type 0 where
+-- the cell of the node has its value now, by this node, and waits
+pub record IsPut (v w : Work) (node : Node) : Type 0 where
   pub bounds : w.bounds ≡ v.bounds
   pub rules : w.rules ≡ v.rules
-  pub values : w.values.items ≡ slice_set v.values.items (number v.bounds i.target) k
-  pub flags : w.flags.items ≡ slice_set v.flags.items (number v.bounds i.target) true
-  pub nodes : w.nodes.list ≡ v.nodes.list ++ node_by v i k ∷ []
+  pub values : w.values.items ≡ slice_set v.values.items (number v.bounds node.cell) node.k
+  pub flags : w.flags.items ≡ slice_set v.flags.items (number v.bounds node.cell) true
+  pub nodes : w.nodes.list ≡ v.nodes.list ++ node ∷ []
+
+-- the value of the instance's target is k now, by one more node, and the target waits
+abbrev pub IsRaised : Work → Work → Instance → ℕ → Type 0
+IsRaised v w i k = IsPut v w (node_by v i k)
 
 -- the cell of number n waits no more
 pub record IsTaken (v w : Work) (n : ℕ) : Type 0 where
@@ -136,6 +137,7 @@ pub record Rises (v w : Work) : Type 0 where
   pub bounds : w.bounds ≡ v.bounds
   pub rules : w.rules ≡ v.rules
   pub values : (n : ℕ) → get_or v.values.items n 0 ≤ get_or w.values.items n 0
+  pub nodes : AllStay v.nodes.list w.nodes.list
   pub shown : (L : List Entry) → AllShown v L → AllShown w L
 
 -- all instances were tried until none rose
@@ -143,6 +145,7 @@ pub record Propagates (v w : Work) : Type 0 where
   pub bounds : w.bounds ≡ v.bounds
   pub rules : w.rules ≡ v.rules
   pub values : (n : ℕ) → get_or v.values.items n 0 ≤ get_or w.values.items n 0
+  pub nodes : AllStay v.nodes.list w.nodes.list
   pub shown : (L : List Entry) → AllShown v L → AllShown w L
   pub done : AllDone w
   pub idle : IsIdle w
@@ -155,3 +158,37 @@ pub record IsCopy (v w : Work) : Type 0 where
   pub places : w.places.items ≡ v.places.items
   pub nodes : w.nodes ≡ v.nodes
   pub flags : w.flags.items ≡ v.flags.items
+
+-- ---- the number of instances that are tried
+
+-- at most fan for each cell that was taken out; each such cell waited, or its value rose
+pub record Pays (v w : Work) (tried : ℕ) : Type 0 where
+  pub taken : ℕ
+  pub bound : tried ≤ fan_of v.bounds * taken
+  pub paid : taken + sum_of v.values.items + waiting w.flags.items ≤ sum_of w.values.items + waiting v.flags.items
+
+-- at most fan for each rise of a value by one
+pub record Tries (v w : Work) (tried : ℕ) : Type 0 where
+  pub rise : ℕ
+  pub score : sum_of v.values.items + rise ≡ sum_of w.values.items
+  pub bound : tried ≤ fan_of v.bounds * rise
+
+-- ---- axioms and imports
+
+-- each cell has the value of its axiom, by a node of its own, and waits where that is over 0
+pub record IsStart (w : Work) : Type 0 where
+  pub count : length w.nodes.list ≡ cells_of w.bounds
+  pub axioms : StartsWithAxioms w.bounds w.nodes.list (cells_of w.bounds)
+  pub set : AreSet w.nodes.list w.values.items w.places.items w.flags.items (cells_of w.bounds)
+
+-- the values have what the node of an import says, and every instance is done
+pub record Accepts (v w : Work) (node : Node) : Type 0 where
+  pub bounds : w.bounds ≡ v.bounds
+  pub rules : w.rules ≡ v.rules
+  pub values : (n : ℕ) → get_or v.values.items n 0 ≤ get_or w.values.items n 0
+  pub nodes : AllStay v.nodes.list w.nodes.list
+  pub shown : (L : List Entry) (n : ℕ) → node.made ≡ made.Import n → Concludes v.bounds v.rules L (imported n) node.cell node.k
+      → AllShown v L → AllShown w L
+  pub held : node.k ≤ value_in w node.cell
+  pub done : AllDone w
+  pub idle : IsIdle w

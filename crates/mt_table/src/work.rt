@@ -1,13 +1,14 @@
 //! Values of cells with their derivations, and the cells whose value rose.
-ghost use Rattle.std.specs.Prelude.{◌≡◌, ℕ, ◌+◌, List};
+ghost use Rattle.std.specs.Prelude.{◌≡◌, ℕ, ◌+◌, ◌*◌, List, length};
 ghost use Rattle.mt_cells.specs.declared.bounds.TheConstants.{MOST_COLUMNS};
 ghost use Rattle.mt_cells.specs.Cells.{cells_of};
 ghost use Rattle.mt_table.specs.Shapes.{IsShaped, NoneBefore, ArePlaced, ArePlaced-prop, HasRoom, AreTops, sum_of};
+ghost use Rattle.mt_table.specs.Starts.{StartsWithAxioms, AreSet};
 
 use mt_cells::{
     Bounds, Cell, Instance, Line, Rule, RuleSet, Stage, Steps, conclude, lines_of_parent,
 };
-use mt_derive::{Axioms, Made, Node, Nodes};
+use mt_derive::{Axioms, Imports, Made, Node, Nodes};
 use std::alloc::{AllocError, Global};
 use std::sync::ledger::Ledger;
 
@@ -41,36 +42,65 @@ fn room_of(bounds: Bounds) -> u32
     room
 }
 
+// Each cell has the value of its axiom, and its node, and waits where the value is over 0. The nodes
+// of the axioms are the first, in the order of cells.
+fn set_to_axioms(
+    bounds: Bounds,
+    nodes: &Nodes,
+    values: &mut Vec<u8>,
+    places: &mut Vec<u32>,
+    flags: &mut Vec<bool>,
+)
+    requires axioms { StartsWithAxioms bounds nodes.now.list (cells_of bounds) }
+    requires values { length values.old.items ≡ cells_of bounds }
+    requires places { length places.old.items ≡ cells_of bounds }
+    requires flags { length flags.old.items ≡ cells_of bounds }
+    ensures values { length values.new.items ≡ cells_of bounds }
+    ensures places { length places.new.items ≡ cells_of bounds }
+    ensures flags { length flags.new.items ≡ cells_of bounds }
+    ensures set { AreSet nodes.now.list values.new.items places.new.items flags.new.items
+        (cells_of bounds) }
+{
+    for n in 0..bounds.cells() {
+        let node = nodes.get(n);
+        values[n as usize] = node.k;
+        places[n as usize] = n;
+        flags[n as usize] = node.k > 0;
+    }
+}
+
 impl Work {
-    ghost use Rattle.std.specs.Prelude.{◌<◌, ◌≤◌, false, IsTrue, IfOk, IfSome, IfNone};
+    ghost use Rattle.std.specs.Prelude.{◌<◌, ◌≤◌, ◌⊎◌, false, IsTrue, IfOk, IfSome, IfNone};
     ghost use Rattle.mt_cells.specs.Cells.{InBounds, columns_of};
     ghost use Rattle.mt_derive.specs.Closed.{second_of};
-    ghost use Rattle.mt_cells.specs.Instances.{IsInstance, conclusion_of};
+    ghost use Rattle.mt_cells.specs.Instances.{IsInstance, conclusion_of, fan_of};
+    ghost use Rattle.mt_cells.specs.Spots.{IsUsed};
+    ghost use Rattle.mt_derive.specs.Nodes.{IsRight};
+    ghost use Rattle.mt_derive.specs.declared.nodes.Made.TheVariants.{Import};
+    ghost use Rattle.mt_derive.specs.Events.{entries_of};
     ghost use Rattle.mt_derive.specs.Values.{sum_to};
-    ghost use Rattle.mt_table.specs.Works.{values_of, value_in, place_in, made_of, AreAxioms, AllPropagated, IsPropagated, IsLineOf, LinePropagated};
-    ghost use Rattle.mt_table.specs.Works.{IsCopy, ParentPropagated, Grows, IsRaised, IsTaken, IsOver, Rises, Propagates};
+    ghost use Rattle.mt_table.specs.Works.{values_of, value_in, place_in, made_of, IsStart, AllPropagated, IsPropagated, IsLineOf, LinePropagated};
+    ghost use Rattle.mt_table.specs.Works.{IsCopy, ParentPropagated, Grows, IsPut, IsRaised, IsTaken, IsOver, Rises, Propagates};
+    ghost use Rattle.mt_table.specs.Works.{IsIdle, AllDone, Pays, Tries, Accepts};
+    ghost use Rattle.mt_table.specs.Fixed.{StandsOn, LiveFit};
 
-    // The values of the axioms. All cells wait.
+    // The values of the axioms. The cells of which an axiom says more than 0 wait.
     pub(crate) fn new(alloc: Global, bounds: Bounds, rules: RuleSet) -> Result<Work, AllocError>
         ensures bounds { IfOk result (λ w. w.bounds ≡ bounds) }
         ensures rules { IfOk result (λ w. w.rules ≡ rules) }
-        ensures axioms { IfOk result (λ w. AreAxioms bounds w.nodes.list w.values.items
-            w.places.items (cells_of bounds)) }
-        ensures propagated { IfOk result AllPropagated }
+        ensures start { IfOk result IsStart }
     {
         let cells = bounds.cells() as usize;
         let axioms = Axioms::new(alloc, bounds)?;
         let mut nodes = Nodes::with_room(alloc, room_of(bounds))?;
-        let mut values = Vec::with_capacity(alloc, cells)?;
-        let mut places = Vec::with_capacity(alloc, cells)?;
-        let mut flags = Vec::with_capacity(alloc, cells)?;
+        let mut values = vec![in alloc; 0u8; cells]?;
+        let mut places = vec![in alloc; 0u32; cells]?;
+        let mut flags = vec![in alloc; false; cells]?;
         for n in 0..bounds.cells() {
             let node = axioms.node(Cell::at(bounds, n));
             nodes.push(node);
-            values.push_reserved(node.k);
-            places.push_reserved(n);
-            flags.push_reserved(true);
         }
+        set_to_axioms(bounds, &nodes, &mut values, &mut places, &mut flags);
         Ok(Work {
             bounds,
             rules,
@@ -80,6 +110,24 @@ impl Work {
             flags,
             from: 0,
         })
+    }
+
+    // Back to the values of the axioms, as `new` gives them.
+    fn restart(&mut self)
+        requires { StartsWithAxioms self.old.bounds self.old.nodes.list (cells_of self.old.bounds) }
+        ensures bounds { self.new.bounds ≡ self.old.bounds }
+        ensures rules { self.new.rules ≡ self.old.rules }
+        ensures start { IsStart self.new }
+    {
+        self.nodes.keep(self.bounds.cells());
+        set_to_axioms(
+            self.bounds,
+            &self.nodes,
+            &mut self.values,
+            &mut self.places,
+            &mut self.flags,
+        );
+        self.from = 0;
     }
 
     // A copy, with as much room.
@@ -162,16 +210,28 @@ impl Work {
         requires high { k ≤ MOST_COLUMNS }
         ensures { IsRaised self.old self.new instance.now k }
     {
-        let n = instance.target.number(self.bounds) as usize;
         let made = self.made_by(instance);
-        let place = self.nodes.len();
-        self.nodes.push(Node {
+        self.put(Node {
             made,
             cell: instance.target,
             k,
         });
+    }
+
+    // The cell of the node takes its value, and waits.
+    fn put(&mut self, node: Node)
+        requires inside { InBounds self.old.bounds node.cell }
+        requires right { IsRight self.old.nodes.list node }
+        requires higher { value_in self.old node.cell < node.k }
+        requires within { node.k ≤ columns_of node.cell }
+        requires high { node.k ≤ MOST_COLUMNS }
+        ensures { IsPut self.old self.new node }
+    {
+        let n = node.cell.number(self.bounds) as usize;
+        let place = self.nodes.len();
+        self.nodes.push(node);
         self.places[n] = place;
-        self.values[n] = k;
+        self.values[n] = node.k;
         self.flags[n] = true;
         self.from = self.from.min(n);
     }
@@ -182,6 +242,7 @@ impl Work {
         requires { IsInstance self.old.bounds self.old.rules instance.now }
         ensures grows { Grows self.old self.new }
         ensures propagated { IsPropagated self.new instance.now }
+        ensures once { steps.new ≡ steps.old + 1 }
     {
         let first = self.value(instance.first);
         let second = self.value(instance.other());
@@ -191,14 +252,17 @@ impl Work {
         }
     }
 
-    // Tries each instance of the line once. In a loop of its own for each rule with two parents the
-    // stage is a constant, so that nothing is decided anew for each instance.
-    fn try_line<L: Ledger>(&mut self, cell: Cell, line: &Line, steps: &mut Steps<L>)
+    // Tries each instance of the line once, and counts them. In a loop of its own for each rule with
+    // two parents the stage is a constant, so that nothing is decided anew for each instance.
+    fn try_line<L: Ledger>(&mut self, cell: Cell, line: &Line, steps: &mut Steps<L>) -> u64
         requires inside { InBounds self.old.bounds cell }
         requires right { IsLineOf self.old cell line.now }
         requires some { line.now.first ≤ line.now.last }
         ensures grows { Grows self.old self.new }
         ensures tried { LinePropagated self.old cell line.now self.new }
+        ensures counted { steps.new ≡ steps.old + result }
+        ensures few { result ≤ line.now.last }
+        ensures used { (result ≡ 0) ⊎ IsUsed line.now.stage }
     {
         match line.stage {
             Stage::First(Rule::Product) => self.run_stage(
@@ -221,44 +285,63 @@ impl Work {
 
     // The same of a line of this stage.
     #[inline(always)]
-    fn run_stage<L: Ledger>(&mut self, cell: Cell, line: &Line, stage: Stage, steps: &mut Steps<L>)
+    fn run_stage<L: Ledger>(
+        &mut self,
+        cell: Cell,
+        line: &Line,
+        stage: Stage,
+        steps: &mut Steps<L>,
+    ) -> u64
         requires inside { InBounds self.old.bounds cell }
         requires right { IsLineOf self.old cell line.now }
         requires some { line.now.first ≤ line.now.last }
         requires stage { line.now.stage ≡ stage }
         ensures grows { Grows self.old self.new }
         ensures tried { LinePropagated self.old cell line.now self.new }
+        ensures counted { steps.new ≡ steps.old + result }
+        ensures few { result ≤ line.now.last }
+        ensures used { (result ≡ 0) ⊎ IsUsed line.now.stage }
     {
         let line = Line { stage, ..*line };
         self.run_line(cell, &line, steps)
     }
 
     #[inline(always)]
-    fn run_line<L: Ledger>(&mut self, cell: Cell, line: &Line, steps: &mut Steps<L>)
+    fn run_line<L: Ledger>(&mut self, cell: Cell, line: &Line, steps: &mut Steps<L>) -> u64
         requires inside { InBounds self.old.bounds cell }
         requires right { IsLineOf self.old cell line.now }
         requires some { line.now.first ≤ line.now.last }
         ensures grows { Grows self.old self.new }
         ensures tried { LinePropagated self.old cell line.now self.new }
+        ensures counted { steps.new ≡ steps.old + result }
+        ensures few { result ≤ line.now.last }
+        ensures used { (result ≡ 0) ⊎ IsUsed line.now.stage }
     {
+        let mut count = 0;
         for s in line.first..line.last + 1 {
             if s != line.skip {
                 let instance = line.instance(self.bounds, self.rules, cell, s);
                 self.offer(&instance, steps);
+                count += 1;
             }
         }
+        count
     }
 
-    // Tries each instance of the parent once.
-    fn try_all<L: Ledger>(&mut self, cell: Cell, steps: &mut Steps<L>)
+    // Tries each instance of the parent once, and counts them.
+    fn try_all<L: Ledger>(&mut self, cell: Cell, steps: &mut Steps<L>) -> u64
         requires { InBounds self.old.bounds cell }
         ensures grows { Grows self.old self.new }
         ensures tried { ParentPropagated self.old cell self.new }
+        ensures counted { steps.new ≡ steps.old + result }
+        ensures few { result ≤ fan_of self.old.bounds }
     {
+        let mut count = 0;
         let mut lines = lines_of_parent(self.bounds, self.rules, cell);
         while let Some(line) = lines.next() {
-            self.try_line(cell, &line, steps);
+            count += self.try_line(cell, &line, steps);
         }
+        count
     }
 
     // Takes the cell of this number, if it waits.
@@ -276,28 +359,78 @@ impl Work {
 
     // Tries the instances of the sequences that wait, so that arrays start from what these give: in
     // the order of cells they come after the arrays, whose instances would be tried over again.
-    fn propagate_sequences<L: Ledger>(&mut self, steps: &mut Steps<L>)
+    fn propagate_sequences<L: Ledger>(&mut self, steps: &mut Steps<L>) -> u64
         requires { AllPropagated self.old }
         ensures propagated { AllPropagated self.new }
         ensures rises { Rises self.old self.new }
+        ensures counted { steps.new ≡ steps.old + result }
+        ensures pays { Pays self.old self.new result }
     {
+        let mut count = 0;
         for n in 0..self.bounds.cells() {
             let cell = Cell::at(self.bounds, n);
             if matches!(cell, Cell::Seq { .. }) && self.take_at(n) {
-                self.try_all(cell, steps);
+                count += self.try_all(cell, steps);
             }
         }
+        count
     }
 
-    // Tries the instances of cells that wait until none does.
-    pub(crate) fn propagate<L: Ledger>(&mut self, steps: &mut Steps<L>)
+    // Tries the instances of cells that wait until none does, and counts them.
+    pub(crate) fn propagate<L: Ledger>(&mut self, steps: &mut Steps<L>) -> u64
         requires { AllPropagated self.old }
-        ensures { Propagates self.old self.new }
+        ensures propagates { Propagates self.old self.new }
+        ensures counted { steps.new ≡ steps.old + result }
+        ensures pays { Pays self.old self.new result }
     {
-        self.propagate_sequences(steps);
+        let mut count = self.propagate_sequences(steps);
         while let Some(n) = self.take() {
             let cell = Cell::at(self.bounds, n);
-            self.try_all(cell, steps);
+            count += self.try_all(cell, steps);
         }
+        count
+    }
+
+    // Takes what the node of an import says of its cell, and counts the instances that are tried.
+    pub(crate) fn accept<L: Ledger>(&mut self, node: Node, steps: &mut Steps<L>) -> u64
+        requires done { AllDone self.old }
+        requires idle { IsIdle self.old }
+        requires inside { InBounds self.old.bounds node.cell }
+        requires within { node.k ≤ columns_of node.cell }
+        requires import { (n : ℕ) × (node.made ≡ Import n) }
+        ensures accepts { Accepts self.old self.new node }
+        ensures counted { steps.new ≡ steps.old + result }
+        ensures tries { Tries self.old self.new result }
+    {
+        if node.k <= self.value(node.cell) {
+            return 0;
+        }
+        self.put(node);
+        self.propagate(steps)
+    }
+
+    // The values over these events, from those of the axioms on: import by import, the live ones. The
+    // instances that are tried are counted.
+    pub(crate) fn rebuild<L: Ledger>(&mut self, imports: &Imports, steps: &mut Steps<L>) -> u64
+        requires axioms { StartsWithAxioms self.old.bounds self.old.nodes.list
+            (cells_of self.old.bounds) }
+        requires bounds { imports.now.bounds ≡ self.old.bounds }
+        requires fits { LiveFit self.old.bounds imports.now.events }
+        ensures bounds { self.new.bounds ≡ self.old.bounds }
+        ensures rules { self.new.rules ≡ self.old.rules }
+        ensures stands { StandsOn self.new (entries_of imports.now.events)
+            (length (entries_of imports.now.events) + 1) }
+        ensures counted { steps.new ≡ steps.old + result }
+        ensures few { result ≤ fan_of self.new.bounds * sum_of self.new.values.items }
+    {
+        self.restart();
+        let mut count = self.propagate(steps);
+        for earlier in 0..imports.len() {
+            let n = earlier + 1;
+            if imports.live(n) {
+                count += self.accept(imports.node(n), steps);
+            }
+        }
+        count
     }
 }

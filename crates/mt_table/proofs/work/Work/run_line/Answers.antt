@@ -1,5 +1,6 @@
-use Rattle.std.proofs.Common.{rules}
-use Rattle.mt_cells.proofs.SpotLemmas.{holds}
+use Rattle.std.proofs.Common.{rules, arith, inr, ◌≤◌}
+use Rattle.mt_cells.specs.Spots.{IsSpot}
+use Rattle.mt_cells.proofs.SpotLemmas.{holds, stands}
 use Rattle.mt_table.proofs.LineLemmas.{line_step, line_skip}
 use Rattle.mt_table.proofs.WorkLemmas.{grows_trans}
 use Rattle.mt_table.proofs.work.Work.run_line.Goals as goal
@@ -14,13 +15,24 @@ offer-requires g c =
 
 pub loop-s-preserved : goal.loop-s-preserved
 loop-s-preserved g c =
-    elim c.if-s-line.branch [
-      | then-s-line w ↦ rw w.self-is (
-        grows_trans c.args.self.now c.loop-s.self w.offer.new.self c.loop-s.invariant.0 w.offer.ensures.grows,
-        line_step c.args.self.now.bounds c.args.self.now.rules c.loop-s.self w.offer.new.self c.args.cell c.args.line.now.stage c.args.line.now.m c.args.line.now.depth c.loop-s.s _ w.offer.ensures.grows c.loop-s.invariant.1 w.instance-instance.ensures w.offer.ensures.propagated,
-      )
-      | else-s-line w ↦ rw w.self-is (
+    let v = c.args.self.now in
+    let line = c.args.line.now in
+    let from : line.first ≤ c.loop-s.s = search rules in
+    let to : c.loop-s.s ≤ line.last = search rules in elim c.if-s-line.branch [
+      | then-s-line w ↦
+          let spot : IsSpot v.bounds v.rules c.args.cell line.stage line.m line.depth c.loop-s.s = (c.requires.right.spots c.loop-s.s).1 (from, to, w.if-s-line.true) in
+          rw (w.self-is, w.steps-is, w.count-is) (
+            grows_trans v c.loop-s.self w.offer.new.self c.loop-s.invariant.0 w.offer.ensures.grows,
+            line_step v.bounds v.rules c.loop-s.self w.offer.new.self c.args.cell line.stage line.m line.depth c.loop-s.s _ w.offer.ensures.grows c.loop-s.invariant.1 w.instance-instance.ensures w.offer.ensures.propagated,
+            omega (arith, c.loop-s.invariant.2, w.offer.ensures.once),
+            omega (arith, c.loop-s.invariant.3),
+            inr (stands v.bounds v.rules c.args.cell line.stage line.m line.depth c.loop-s.s c.requires.inside spot).used,
+          )
+      | else-s-line w ↦ rw (w.self-is, w.steps-is, w.count-is) (
         c.loop-s.invariant.0,
-        line_skip c.args.self.now.bounds c.args.self.now.rules c.loop-s.self c.args.cell c.args.line.now.stage c.args.line.now.m c.args.line.now.depth c.loop-s.s c.loop-s.invariant.1 (λ p. ((c.requires.right.spots c.loop-s.s).0 p).2 w.if-s-line.false),
+        line_skip v.bounds v.rules c.loop-s.self c.args.cell line.stage line.m line.depth c.loop-s.s c.loop-s.invariant.1 (λ p. ((c.requires.right.spots c.loop-s.s).0 p).2 w.if-s-line.false),
+        c.loop-s.invariant.2,
+        omega (arith, c.loop-s.invariant.3),
+        c.loop-s.invariant.4,
       )
     ]

@@ -6,3 +6,6 @@ run_line-requires-clause-right g c = right_at c.args.self.now.bounds c.args.self
 
 pub returns-clause-tried : goal.returns-clause-tried
 returns-clause-tried g c = rw c.requires.stage c.run_line.ensures.tried
+
+pub returns-clause-used : goal.returns-clause-used
+returns-clause-used g c = rw c.requires.stage c.run_line.ensures.used
