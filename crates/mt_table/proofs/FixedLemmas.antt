@@ -14,7 +14,7 @@ use Rattle.mt_derive.proofs.ConcludedLemmas.{conclude_push}
 use Rattle.mt_derive.proofs.PlaceLemmas.{place_last}
 use Rattle.mt_derive.proofs.TreeLemmas.{IsValue-closed}
 use Rattle.mt_table.specs.declared.work.Work.{Work}
-use Rattle.mt_table.specs.Works.{value_in, place_in, IsPut, IsStart, Propagates, Accepts}
+use Rattle.mt_table.specs.Works.{value_in, node_number_in, IsPut, IsStart, Propagates, Accepts}
 use Rattle.mt_table.specs.Fixed.{StandsOn, IsFixed}
 use Rattle.mt_table.specs.Tables.{IsServed}
 use Rattle.mt_table.proofs.NodeLemmas.{Holds, cell_node, shown_tree, value_within}
@@ -87,8 +87,8 @@ fixed w L s = record {
   values = λ c h. IsValue-closed w.bounds w.rules L (value_in w) closed c (reached c h).0 (reached c h).2;
 }
   where
-    reached : (c : Cell) → InBounds w.bounds c → (t : Tree) × IsTreeOf w.nodes.list (place_in w c) t × Concludes w.bounds w.rules L t c (value_in w c)
-    reached c h = shown_tree w L (place_in w c) c (value_in w c) s.shown (cell_node w c h)
+    reached : (c : Cell) → InBounds w.bounds c → (t : Tree) × IsTreeOf w.nodes.list (node_number_in w c) t × Concludes w.bounds w.rules L t c (value_in w c)
+    reached c h = shown_tree w L (node_number_in w c) c (value_in w c) s.shown (cell_node w c h)
 
     closed : IsClosed w.bounds w.rules L (value_in w)
     closed = record { axioms = s.held; imports = λ n l h live. s.imports n l (omega arith) live; done = s.done }
@@ -112,16 +112,16 @@ fixed_same v w L eb er ev ef en f = record {
 
 -- the table's node of a cell is what it should be
 pub served : (w : Work) (E : List Event) (c : Cell) → IsFixed w (entries_of E) → InBounds w.bounds c
-    → IsServed (record { bounds = w.bounds; rules = w.rules; events = E; nodes = w.nodes; places = w.places.items }) c (place_in w c)
+    → IsServed (record { bounds = w.bounds; rules = w.rules; events = E; nodes = w.nodes; node_numbers = w.node_numbers.items }) c (node_number_in w c)
 served w E c f h =
-    let x : Holds w.nodes.list (place_in w c) c (value_in w c) = cell_node w c h in
+    let x : Holds w.nodes.list (node_number_in w c) c (value_in w c) = cell_node w c h in
     record {
       node = x.0;
       place = x.1;
       cell = x.2;
       value = rw x.3 (f.values c h);
       within = rw x.3 (value_within w c h);
-      concluded = f.stands.shown (place_in w c) x.0 x.1;
+      concluded = f.stands.shown (node_number_in w c) x.0 x.1;
     }
 
 pub sum_step : (f : ℕ → ℕ) (n : ℕ) → sum_to (n + 1) f ≡ sum_to n f + f n

@@ -13,7 +13,7 @@ use Rattle.mt_table.specs.Marks.{IsMarked, AreOther}
 
 -- ---- marks
 
--- the places before n are marked, the others as they were
+-- the numbers below n are marked, the others as they were
 pub record AreMarked (old new before after : List ℕ) (event n : ℕ) : Type 0 where
   pub done : (j : ℕ) → j < n → IsMarked old new before after event j
   pub rest : (j : ℕ) → n ≤ j → get_or after j 0 ≡ get_or before j 0

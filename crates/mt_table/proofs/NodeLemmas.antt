@@ -26,7 +26,7 @@ use Rattle.mt_derive.proofs.ConcludedLemmas.{place_longer, tree_longer}
 use Rattle.mt_derive.proofs.PlaceLemmas.{place_at, place_below, place_index, place_last}
 use Rattle.mt_table.specs.declared.work.Work.{Work}
 use Rattle.mt_table.specs.Shapes.{NoneBefore, sum_of, Shows, ArePlaced, HasRoom}
-use Rattle.mt_table.specs.Works.{value_in, place_in, AllShown, made_by, node_by}
+use Rattle.mt_table.specs.Works.{value_in, node_number_in, AllShown, made_by, node_by}
 
 -- ---- the nodes of cells
 
@@ -41,16 +41,16 @@ pub shows : (b : Bounds) (nodes : List Node) (n : ℕ) (c : Cell) (k : ℕ) → 
 shows b nodes n c k h (node, at, cell, value) =
     rw (place_index nodes n node no_node at) (place_below nodes n node at, rw cell h, ap (number b) cell, value)
 
-pub cell_node : (v : Work) (c : Cell) → InBounds v.bounds c → Holds v.nodes.list (place_in v c) c (value_in v c)
-cell_node v c h = held v.bounds v.nodes.list (place_in v c) c (value_in v c) h (v.placed c h)
+pub cell_node : (v : Work) (c : Cell) → InBounds v.bounds c → Holds v.nodes.list (node_number_in v c) c (value_in v c)
+cell_node v c h = held v.bounds v.nodes.list (node_number_in v c) c (value_in v c) h (v.placed c h)
 
 -- ---- the new node
 
 -- by the second parent, where there is one
 right_by : (v : Work) (r : Rule) (t p : Cell) (q : Option Cell) (k : ℕ) → InBounds v.bounds p → Leads v.bounds r t p q → k ≡ conclusion_by r p q (value_in v p) (value_in v (second_or p q)) → 0 < k
-    → IsRightBy (made_by r q (place_in v p) (place_in v (second_or p q))) v.nodes.list (record { made = made_by r q (place_in v p) (place_in v (second_or p q)); cell = t; k = k })
+    → IsRightBy (made_by r q (node_number_in v p) (node_number_in v (second_or p q))) v.nodes.list (record { made = made_by r q (node_number_in v p) (node_number_in v (second_or p q)); cell = t; k = k })
 right_by v r t p None k h leads e l =
-    let parent : Holds v.nodes.list (place_in v p) p (value_in v p) = cell_node v p h in (
+    let parent : Holds v.nodes.list (node_number_in v p) p (value_in v p) = cell_node v p h in (
       parent.0,
       parent.1,
       record {
@@ -62,8 +62,8 @@ right_by v r t p None k h leads e l =
       },
     )
 right_by v r t p (Some q) k h leads e l =
-    let first : Holds v.nodes.list (place_in v p) p (value_in v p) = cell_node v p h in
-    let second : Holds v.nodes.list (place_in v q) q (value_in v q) = cell_node v q leads.0 in (
+    let first : Holds v.nodes.list (node_number_in v p) p (value_in v p) = cell_node v p h in
+    let second : Holds v.nodes.list (node_number_in v q) q (value_in v q) = cell_node v q leads.0 in (
       first.0,
       second.0,
       first.1,
@@ -87,21 +87,21 @@ shown_tree v L n c k all (node, at, cell, value) =
     (x.tree, x.unfolds, (x.concludes.0, x.concludes.1 ∙ cell, x.concludes.2 ∙ value))
 
 tree_by : (v : Work) (L : List Entry) (r : Rule) (t p : Cell) (q : Option Cell) (k : ℕ) (node : Node) → AllShown v L → IsInstance v.bounds v.rules (step r t p q)
-    → k ≡ conclusion_by r p q (value_in v p) (value_in v (second_or p q)) → 0 < k → node.made ≡ made_by r q (place_in v p) (place_in v (second_or p q)) → node.cell ≡ t → node.k ≡ k
+    → k ≡ conclusion_by r p q (value_in v p) (value_in v (second_or p q)) → 0 < k → node.made ≡ made_by r q (node_number_in v p) (node_number_in v (second_or p q)) → node.cell ≡ t → node.k ≡ k
     → IsConcluded v.bounds v.rules L (v.nodes.list ++ node ∷ []) (length v.nodes.list) node
 tree_by v L r t p None k node all h e l made cell value =
-    let first : (t : Tree) × IsTreeOf v.nodes.list (place_in v p) t × Concludes v.bounds v.rules L t p (value_in v p) = shown_tree v L (place_in v p) p (value_in v p) all (cell_node v p h.first) in
+    let first : (t : Tree) × IsTreeOf v.nodes.list (node_number_in v p) t × Concludes v.bounds v.rules L t p (value_in v p) = shown_tree v L (node_number_in v p) p (value_in v p) all (cell_node v p h.first) in
     record {
       tree = one r t first.0;
-      unfolds = (node, place_last v.nodes.list node, place_in v p, made, cell, tree_longer v.nodes.list (node ∷ []) (place_in v p) first.0 first.1);
+      unfolds = (node, place_last v.nodes.list node, node_number_in v p, made, cell, tree_longer v.nodes.list (node ∷ []) (node_number_in v p) first.0 first.1);
       concludes = rw (cell, value, e) (one_concluded v.bounds v.rules L r t p h first.0 (value_in v p) first.2 (rw e at l));
     }
 tree_by v L r t p (Some q) k node all h e l made cell value =
-    let first : (t : Tree) × IsTreeOf v.nodes.list (place_in v p) t × Concludes v.bounds v.rules L t p (value_in v p) = shown_tree v L (place_in v p) p (value_in v p) all (cell_node v p h.first) in
-    let second : (t : Tree) × IsTreeOf v.nodes.list (place_in v q) t × Concludes v.bounds v.rules L t q (value_in v q) = shown_tree v L (place_in v q) q (value_in v q) all (cell_node v q h.leads.0) in
+    let first : (t : Tree) × IsTreeOf v.nodes.list (node_number_in v p) t × Concludes v.bounds v.rules L t p (value_in v p) = shown_tree v L (node_number_in v p) p (value_in v p) all (cell_node v p h.first) in
+    let second : (t : Tree) × IsTreeOf v.nodes.list (node_number_in v q) t × Concludes v.bounds v.rules L t q (value_in v q) = shown_tree v L (node_number_in v q) q (value_in v q) all (cell_node v q h.leads.0) in
     record {
       tree = two r t first.0 second.0;
-      unfolds = (node, place_last v.nodes.list node, place_in v p, place_in v q, made, cell, tree_longer v.nodes.list (node ∷ []) (place_in v p) first.0 first.1, tree_longer v.nodes.list (node ∷ []) (place_in v q) second.0 second.1);
+      unfolds = (node, place_last v.nodes.list node, node_number_in v p, node_number_in v q, made, cell, tree_longer v.nodes.list (node ∷ []) (node_number_in v p) first.0 first.1, tree_longer v.nodes.list (node ∷ []) (node_number_in v q) second.0 second.1);
       concludes = rw (cell, value, e) (two_concluded v.bounds v.rules L r t p q h first.0 second.0 (value_in v p) (value_in v q) first.2 second.2);
     }
 
@@ -110,18 +110,18 @@ pub node_concludes : (v : Work) (i : Instance) (k : ℕ) → IsInstance v.bounds
 node_concludes v i k h e l L all = tree_by v L i.rule i.target i.first i.second k (node_by v i k) all h e l refl refl refl
 
 -- the cells keep their nodes, and the target has the new one
-pub placed_raised : (b : Bounds) (nodes : List Node) (places values : List ℕ) (node : Node) (c : Cell) (k : ℕ) → InBounds b c → node.cell ≡ c → node.k ≡ k
-    → length places ≡ cells_of b → length values ≡ cells_of b → ArePlaced b nodes places values
-    → ArePlaced b (nodes ++ node ∷ []) (set places (number b c) (length nodes)) (set values (number b c) k)
-placed_raised b nodes places values node c k h cell value few count old x inside = shows b _ _ x _ inside (⊎_elim
+pub placed_raised : (b : Bounds) (nodes : List Node) (node_numbers values : List ℕ) (node : Node) (c : Cell) (k : ℕ) → InBounds b c → node.cell ≡ c → node.k ≡ k
+    → length node_numbers ≡ cells_of b → length values ≡ cells_of b → ArePlaced b nodes node_numbers values
+    → ArePlaced b (nodes ++ node ∷ []) (set node_numbers (number b c) (length nodes)) (set values (number b c) k)
+placed_raised b nodes node_numbers values node c k h cell value few count old x inside = shows b _ _ x _ inside (⊎_elim
     (λ (e : number b x ≡ number b c).
     let same : x ≡ c = number_apart b x c inside h e in
-    rw (same, get_or-set_same places (number b c) (length nodes) 0 (rw few (number_below b c h)), get_or-set_same values (number b c) k 0 (rw count (number_below b c h)))
+    rw (same, get_or-set_same node_numbers (number b c) (length nodes) 0 (rw few (number_below b c h)), get_or-set_same values (number b c) k 0 (rw count (number_below b c h)))
     (node, place_last nodes node, cell, value))
     (λ (ne : number b x ≢ number b c).
-    let was : Holds nodes (get_or places (number b x) 0) x (get_or values (number b x) 0) = held b nodes _ x _ inside (old x inside) in
-    rw (get_or-set_other places (number b c) (number b x) (length nodes) 0 ne, get_or-set_other values (number b c) (number b x) k 0 ne)
-    (was.0, place_longer nodes (node ∷ []) (get_or places (number b x) 0) was.0 was.1, was.2, was.3))
+    let was : Holds nodes (get_or node_numbers (number b x) 0) x (get_or values (number b x) 0) = held b nodes _ x _ inside (old x inside) in
+    rw (get_or-set_other node_numbers (number b c) (number b x) (length nodes) 0 ne, get_or-set_other values (number b c) (number b x) k 0 ne)
+    (was.0, place_longer nodes (node ∷ []) (get_or node_numbers (number b x) 0) was.0 was.1, was.2, was.3))
     (cases_eq (number b x) (number b c)))
 
 -- ---- room

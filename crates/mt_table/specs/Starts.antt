@@ -15,9 +15,9 @@ StartsWithAxioms b nodes n =
 
 -- the cell of number j has node j with its value, and waits where that is over 0
 abbrev pub IsSet : List Node → List ℕ → List ℕ → List Bool → ℕ → Type 0
-IsSet nodes values places flags j =
-    (node : Node) × IsAt nodes j node × (get_or values j 0 ≡ node.k) × (get_or places j 0 ≡ j) × (get_or flags j false ≡ ltb 0 node.k)
+IsSet nodes values node_numbers flags j =
+    (node : Node) × IsAt nodes j node × (get_or values j 0 ≡ node.k) × (get_or node_numbers j 0 ≡ j) × (get_or flags j false ≡ ltb 0 node.k)
 
 -- so have the cells before number n
 abbrev pub AreSet : List Node → List ℕ → List ℕ → List Bool → ℕ → Type 0
-AreSet nodes values places flags n = (j : ℕ) → j < n → IsSet nodes values places flags j
+AreSet nodes values node_numbers flags n = (j : ℕ) → j < n → IsSet nodes values node_numbers flags j

@@ -21,11 +21,11 @@ pub record Contents : Type 0 where
   pub rules : RuleSet
   pub events : List Event
   pub nodes : NodeList
-  pub places : List ℕ
+  pub node_numbers : List ℕ
 
 -- the node that the table names for a cell
-abbrev pub place_of : Contents → Cell → ℕ
-place_of t c = get_or t.places (number t.bounds c) 0
+abbrev pub node_number_of : Contents → Cell → ℕ
+node_number_of t c = get_or t.node_numbers (number t.bounds c) 0
 
 -- node n shows the cell with its greatest value, and unfolds to a tree that concludes it
 pub record IsServed (t : Contents) (c : Cell) (n : ℕ) : Type 0 where

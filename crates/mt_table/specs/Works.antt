@@ -30,8 +30,8 @@ abbrev pub value_in : Work → Cell → ℕ
 value_in w c = get_or w.values.items (number w.bounds c) 0
 
 -- the number of the cell's node
-abbrev pub place_in : Work → Cell → ℕ
-place_in w c = get_or w.places.items (number w.bounds c) 0
+abbrev pub node_number_in : Work → Cell → ℕ
+node_number_in w c = get_or w.node_numbers.items (number w.bounds c) 0
 
 -- each node unfolds to a tree that concludes what the node shows
 abbrev pub AllShown : Work → List Entry → Type 0
@@ -95,7 +95,7 @@ made_by r (Some second) p q = made.Two r p q
 
 -- the rule with the nodes of the instance's parents
 abbrev pub made_of : Work → Instance → Made
-made_of v i = made_by i.rule i.second (place_in v i.first) (place_in v (second_of i))
+made_of v i = made_by i.rule i.second (node_number_in v i.first) (node_number_in v (second_of i))
 
 -- the node of what the instance concludes from the values of its parents
 abbrev pub node_by : Work → Instance → ℕ → Node
@@ -155,7 +155,7 @@ pub record IsCopy (v w : Work) : Type 0 where
   pub bounds : w.bounds ≡ v.bounds
   pub rules : w.rules ≡ v.rules
   pub values : w.values.items ≡ v.values.items
-  pub places : w.places.items ≡ v.places.items
+  pub node_numbers : w.node_numbers.items ≡ v.node_numbers.items
   pub nodes : w.nodes ≡ v.nodes
   pub flags : w.flags.items ≡ v.flags.items
 
@@ -179,7 +179,7 @@ pub record Tries (v w : Work) (tried : ℕ) : Type 0 where
 pub record IsStart (w : Work) : Type 0 where
   pub count : length w.nodes.list ≡ cells_of w.bounds
   pub axioms : StartsWithAxioms w.bounds w.nodes.list (cells_of w.bounds)
-  pub set : AreSet w.nodes.list w.values.items w.places.items w.flags.items (cells_of w.bounds)
+  pub set : AreSet w.nodes.list w.values.items w.node_numbers.items w.flags.items (cells_of w.bounds)
 
 -- the values have what the node of an import says, and every instance is done
 pub record Accepts (v w : Work) (node : Node) : Type 0 where

@@ -39,7 +39,7 @@ impl Model for Table {
       rules = t.work.rules;
       events = t.imports.events;
       nodes = t.work.nodes;
-      places = t.work.places.items;
+      node_numbers = t.work.node_numbers.items;
     } };
 
     ghost use Rattle.mt_derive.specs.Events.{entries_of};
@@ -145,7 +145,7 @@ impl Table {
     ghost use Rattle.mt_derive.specs.Trees.{IsValue};
     ghost use Rattle.mt_derive.specs.Values.{IsScore, IsSince, AreChanged};
     ghost use Rattle.mt_derive.specs.Concluded.{AllConclude};
-    ghost use Rattle.mt_table.specs.Tables.{place_of, IsServed};
+    ghost use Rattle.mt_table.specs.Tables.{node_number_of, IsServed};
 
     /// The table without events. It takes all its room at once, for every import and event and every
     /// node that there can ever be, or refuses with `AllocError`. It tries at most `fan` instances for
@@ -264,11 +264,11 @@ impl Table {
     /// The number of a node that concludes the value of the cell.
     pub fn node_of(&self, cell: Cell) -> u32
         requires { InBounds self.now.bounds cell }
-        ensures place { result ≡ place_of self.now cell }
+        ensures number { result ≡ node_number_of self.now cell }
         ensures below { result < length self.now.nodes.list }
         ensures served { IsServed self.now cell result }
     {
-        self.work.place(cell)
+        self.work.node_number(cell)
     }
 
     /// The greatest strength, or `m - t` for a sequence, that a derivation concludes for the cell.

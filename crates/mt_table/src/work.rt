@@ -19,13 +19,13 @@ pub(crate) struct Work {
     pub(crate) bounds: Bounds,
     pub(crate) rules: RuleSet,
     pub(crate) values: Vec<u8>,
-    pub(crate) places: Vec<u32>,
+    pub(crate) node_numbers: Vec<u32>,
     pub(crate) nodes: Nodes,
     flags: Vec<bool>,
     from: usize,
-    ghost shaped: { IsShaped bounds values.items flags.items places.items },
+    ghost shaped: { IsShaped bounds values.items flags.items node_numbers.items },
     ghost before: { NoneBefore flags.items from },
-    ghost placed: { ArePlaced bounds nodes.list places.items values.items } by { ArePlaced-prop bounds nodes.list places.items values.items },
+    ghost placed: { ArePlaced bounds nodes.list node_numbers.items values.items } by { ArePlaced-prop bounds nodes.list node_numbers.items values.items },
     ghost roomy: { ∥ HasRoom bounds nodes values.items ∥₁ },
 }
 
@@ -48,23 +48,23 @@ fn set_to_axioms(
     bounds: Bounds,
     nodes: &Nodes,
     values: &mut Vec<u8>,
-    places: &mut Vec<u32>,
+    node_numbers: &mut Vec<u32>,
     flags: &mut Vec<bool>,
 )
     requires axioms { StartsWithAxioms bounds nodes.now.list (cells_of bounds) }
     requires values { length values.old.items ≡ cells_of bounds }
-    requires places { length places.old.items ≡ cells_of bounds }
+    requires node_numbers { length node_numbers.old.items ≡ cells_of bounds }
     requires flags { length flags.old.items ≡ cells_of bounds }
     ensures values { length values.new.items ≡ cells_of bounds }
-    ensures places { length places.new.items ≡ cells_of bounds }
+    ensures node_numbers { length node_numbers.new.items ≡ cells_of bounds }
     ensures flags { length flags.new.items ≡ cells_of bounds }
-    ensures set { AreSet nodes.now.list values.new.items places.new.items flags.new.items
+    ensures set { AreSet nodes.now.list values.new.items node_numbers.new.items flags.new.items
         (cells_of bounds) }
 {
     for n in 0..bounds.cells() {
         let node = nodes.get(n);
         values[n as usize] = node.k;
-        places[n as usize] = n;
+        node_numbers[n as usize] = n;
         flags[n as usize] = node.k > 0;
     }
 }
@@ -79,7 +79,7 @@ impl Work {
     ghost use Rattle.mt_derive.specs.declared.nodes.Made.TheVariants.{Import};
     ghost use Rattle.mt_derive.specs.Events.{entries_of};
     ghost use Rattle.mt_derive.specs.Values.{sum_to};
-    ghost use Rattle.mt_table.specs.Works.{values_of, value_in, place_in, made_of, IsStart, AllPropagated, IsPropagated, IsLineOf, LinePropagated};
+    ghost use Rattle.mt_table.specs.Works.{values_of, value_in, node_number_in, made_of, IsStart, AllPropagated, IsPropagated, IsLineOf, LinePropagated};
     ghost use Rattle.mt_table.specs.Works.{IsCopy, ParentPropagated, Grows, IsPut, IsRaised, IsTaken, IsOver, Rises, Propagates};
     ghost use Rattle.mt_table.specs.Works.{IsIdle, AllDone, Pays, Tries, Accepts};
     ghost use Rattle.mt_table.specs.Fixed.{StandsOn, LiveFit};
@@ -94,18 +94,18 @@ impl Work {
         let axioms = Axioms::new(alloc, bounds)?;
         let mut nodes = Nodes::with_room(alloc, room_of(bounds))?;
         let mut values = vec![in alloc; 0u8; cells]?;
-        let mut places = vec![in alloc; 0u32; cells]?;
+        let mut node_numbers = vec![in alloc; 0u32; cells]?;
         let mut flags = vec![in alloc; false; cells]?;
         for n in 0..bounds.cells() {
             let node = axioms.node(Cell::at(bounds, n));
             nodes.push(node);
         }
-        set_to_axioms(bounds, &nodes, &mut values, &mut places, &mut flags);
+        set_to_axioms(bounds, &nodes, &mut values, &mut node_numbers, &mut flags);
         Ok(Work {
             bounds,
             rules,
             values,
-            places,
+            node_numbers,
             nodes,
             flags,
             from: 0,
@@ -124,7 +124,7 @@ impl Work {
             self.bounds,
             &self.nodes,
             &mut self.values,
-            &mut self.places,
+            &mut self.node_numbers,
             &mut self.flags,
         );
         self.from = 0;
@@ -138,7 +138,7 @@ impl Work {
             bounds: self.bounds,
             rules: self.rules,
             values: self.values.clone()?,
-            places: self.places.clone()?,
+            node_numbers: self.node_numbers.clone()?,
             nodes: self.nodes.copy(alloc)?,
             flags: self.flags.clone()?,
             from: self.from,
@@ -156,11 +156,11 @@ impl Work {
     }
 
     // The number of the node that concludes the cell's value.
-    pub(crate) fn place(&self, cell: Cell) -> u32
+    pub(crate) fn node_number(&self, cell: Cell) -> u32
         requires { InBounds self.now.bounds cell }
-        ensures { result ≡ place_in self.now cell }
+        ensures { result ≡ node_number_in self.now cell }
     {
-        self.places[cell.number(self.bounds) as usize]
+        self.node_numbers[cell.number(self.bounds) as usize]
     }
 
     // The sum of the values of all cells.
@@ -194,10 +194,10 @@ impl Work {
         requires { IsInstance self.now.bounds self.now.rules instance.now }
         ensures { result ≡ made_of self.now instance.now }
     {
-        let first = self.place(instance.first);
+        let first = self.node_number(instance.first);
         match instance.second {
             None => Made::One(instance.rule, first),
-            Some(second) => Made::Two(instance.rule, first, self.place(second)),
+            Some(second) => Made::Two(instance.rule, first, self.node_number(second)),
         }
     }
 
@@ -228,9 +228,9 @@ impl Work {
         ensures { IsPut self.old self.new node }
     {
         let n = node.cell.number(self.bounds) as usize;
-        let place = self.nodes.len();
+        let latest = self.nodes.len();
         self.nodes.push(node);
-        self.places[n] = place;
+        self.node_numbers[n] = latest;
         self.values[n] = node.k;
         self.flags[n] = true;
         self.from = self.from.min(n);

@@ -13,7 +13,7 @@ pub invariant_of-self-clause-placed : goal.invariant_of-self-clause-placed
 invariant_of-self-clause-placed c =
     let v = c.args.self.now in
     let node = c.args.node in
-    rw (c.number-n.ensures.value, c.len-place.ensures, c.push.ensures.list) (placed_raised v.bounds v.nodes.list v.places.items v.values.items node node.cell node.k c.requires.inside refl refl v.shaped.2 v.shaped.0 v.placed)
+    rw (c.number-n.ensures.value, c.len-latest.ensures, c.push.ensures.list) (placed_raised v.bounds v.nodes.list v.node_numbers.items v.values.items node node.cell node.k c.requires.inside refl refl v.shaped.2 v.shaped.0 v.placed)
 
 pub invariant_of-self-clause-roomy : goal.invariant_of-self-clause-roomy
 invariant_of-self-clause-roomy c =
@@ -29,6 +29,6 @@ invariant_of-self-clause-shaped c =
     let v = c.args.self.now in (
       length-set v.values.items c.number-n.result c.args.node.k ∙ v.shaped.0,
       length-set v.flags.items c.number-n.result _ ∙ v.shaped.1,
-      length-set v.places.items c.number-n.result c.len-place.result ∙ v.shaped.2,
+      length-set v.node_numbers.items c.number-n.result c.len-latest.result ∙ v.shaped.2,
       set_high v.values.items c.number-n.result c.args.node.k MOST_COLUMNS (rw v.shaped.0 c.number-n.ensures.below) v.shaped.3 c.requires.high,
     )

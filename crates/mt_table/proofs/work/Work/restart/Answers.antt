@@ -25,12 +25,12 @@ invariant_of-self c =
       shaped = (
         c.set_to_axioms.ensures.values,
         c.set_to_axioms.ensures.flags,
-        c.set_to_axioms.ensures.places,
-        set_most b nodes.list new.values.items new.places.items new.flags.items first c.set_to_axioms.ensures.set c.set_to_axioms.ensures.values,
+        c.set_to_axioms.ensures.node_numbers,
+        set_most b nodes.list new.values.items new.node_numbers.items new.flags.items first c.set_to_axioms.ensures.set c.set_to_axioms.ensures.values,
       );
       before = λ n l. absurd (omega arith);
-      placed = set_placed b nodes.list new.values.items new.places.items new.flags.items first c.set_to_axioms.ensures.set;
-      roomy = ∥∥₁_map v.roomy (λ r. set_room b nodes.list new.values.items new.places.items new.flags.items first c.set_to_axioms.ensures.set nodes.room r.tops r.are
+      placed = set_placed b nodes.list new.values.items new.node_numbers.items new.flags.items first c.set_to_axioms.ensures.set;
+      roomy = ∥∥₁_map v.roomy (λ r. set_room b nodes.list new.values.items new.node_numbers.items new.flags.items first c.set_to_axioms.ensures.set nodes.room r.tops r.are
           c.set_to_axioms.ensures.values count (rw c.keep.ensures.room r.whole));
     }
 
