@@ -5,6 +5,8 @@ use crate::tests::assert_answers;
 use mt_answer::text;
 use mt_cells::{Ask, Bounds, Cell, Kind, Question};
 use mt_service::check_text;
+use mt_table::Table;
+use std::alloc::Global;
 use std::marker::Brand;
 use std::sync::ledger::Blank;
 use std::test::Fail;
@@ -79,6 +81,15 @@ fn ask_for(cell: Cell) -> Ask {
     }
 }
 
+// The matrices that are served for the cell.
+fn served(alloc: Global, table: &Table, cell: Cell) -> Result<Vec<u8>, Fail> {
+    let question = Question::Matrix(ask_for(cell));
+    match question.outside(table.bounds()) {
+        None => Ok(text(alloc, table, &question)?),
+        Some(_) => Err("a cell is outside")?,
+    }
+}
+
 // For each cell the matrices that are served are an import text whose claim is the value, and holds.
 #[test]
 fn all_matrices_hold(rt: HostRuntime) -> Result<(), Fail> {
@@ -87,10 +98,8 @@ fn all_matrices_hold(rt: HostRuntime) -> Result<(), Fail> {
     let table = table_of::<Brand>(alloc, bounds, Blank::new(1))?;
     for n in 0..bounds.cells() {
         let cell = Cell::at(bounds, n);
-        let question = Question::Matrix(ask_for(cell));
-        assert_eq!(rt; question.outside(bounds), None);
-        let served = text(alloc, &table, &question)?;
-        let Ok(checked) = check_text(alloc, bounds, &served)? else {
+        let text = served(alloc, &table, cell)?;
+        let Ok(checked) = check_text(alloc, bounds, &text)? else {
             return Err("a served matrix does not hold")?;
         };
         assert_eq!(rt; checked.claim().k, table.value(cell));

@@ -3,9 +3,11 @@
 
 mod changes;
 pub mod laws;
+mod published;
 mod table;
 #[cfg(test)]
 mod tests;
 mod work;
 
+pub use published::Base;
 pub use table::{Applied, Table};
