@@ -2,6 +2,8 @@
 #![tactic(auto)]
 
 mod command;
+#[cfg(test)]
+mod event_tests;
 mod input;
 #[cfg(test)]
 mod sequence_tests;

@@ -46,7 +46,7 @@ pub(crate) fn run(
 }
 
 // A text of parts, each repeated so many times.
-fn text_of(alloc: Global, parts: &[(&[u8], usize)]) -> Result<Vec<u8>, AllocError> {
+pub(crate) fn text_of(alloc: Global, parts: &[(&[u8], usize)]) -> Result<Vec<u8>, AllocError> {
     let mut text = Vec::new(alloc);
     for (part, times) in parts {
         for _ in 0..*times {
@@ -120,7 +120,8 @@ fn bounds_hold_for_checks(rt: HostRuntime) -> Result<(), Fail> {
 }
 
 // The rows of caps7: seven points of which no three are on a line, with three more rows each.
-const CAPS: &[u8] = b"1001\n0001\n0010\n0000\n1010\n0010\n0001\n0000\n1011\n0011\n0001\n0000\n\
+pub(crate) const CAPS: &[u8] =
+    b"1001\n0001\n0010\n0000\n1010\n0010\n0001\n0000\n1011\n0011\n0001\n0000\n\
 1100\n0100\n0001\n0000\n1101\n0101\n0001\n0000\n1110\n0110\n0001\n0000\n1111\n0111\n0001\n0000\n";
 
 #[test]
