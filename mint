@@ -109,7 +109,7 @@ if changed; then
     child=
     trap stop INT TERM HUP
     if changed; then
-        echo "mint: proving and building the program; this is done once, and may take 15 minutes" >&2
+        echo "mint: proving and building the program; this is done once, and may take 20 minutes" >&2
         build
     fi
     trap - INT TERM HUP
