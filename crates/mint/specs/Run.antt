@@ -79,8 +79,7 @@ Does b (task.Niederreiter q m s) before after status output = IsReply b (Some (s
 -- the task reads the input
 abbrev pub ReadsInput : Task → Type 0
 ReadsInput task.Check = Unit {0}
-ReadsInput (task.Ask question) = ⊥
-ReadsInput (task.Niederreiter q m s) = ⊥
+ReadsInput task = ⊥
 
 -- ---- how a command ends
 

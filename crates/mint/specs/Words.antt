@@ -16,10 +16,8 @@ bounds_word b = decimal b.m_max ++ 44 ∷ decimal b.s_max
 
 -- the depth is said for kind ooa alone
 abbrev pub depth_words : Kind → ℕ → List (List ℕ)
-depth_words Net depth = []
-depth_words Oa depth = []
 depth_words Ooa depth = decimal depth ∷ []
-depth_words Seq depth = []
+depth_words kind depth = []
 
 -- these words are the sizes of a question of this kind
 pub record IsSizes (kind : Kind) (words : List (List ℕ)) (a : Ask) : Type 0 where

@@ -28,12 +28,6 @@ decimal_plain n l = (
       n l,
 )
 
-pub kind_plain : (kind : Kind) → IsPlain (kind_text kind)
-kind_plain Net = (omega arith, refl)
-kind_plain Oa = (omega arith, refl)
-kind_plain Ooa = (omega arith, refl)
-kind_plain Seq = (omega arith, refl)
-
 -- ---- rows
 
 -- a plain field is written as it is

@@ -126,9 +126,6 @@ parent_named numbers (made.Import i) k place h e = absurd (subst (λ (x : Made).
 
 -- ---- the list
 
-pub none_among : (nodes : List Node) (numbers : List ℕ) → AreAmong nodes numbers []
-none_among nodes numbers place node h = absurd h
-
 pub one_among : (nodes : List Node) (numbers : List ℕ) (list : List Node) (node : Node) → AreAmong nodes numbers list
     → IsNodeAmong nodes numbers (get_or numbers (length list) 0) node → AreAmong nodes numbers (list ++ node ∷ [])
 one_among nodes numbers list node all new place x at = ⊎_elim

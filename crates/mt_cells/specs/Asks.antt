@@ -57,10 +57,8 @@ AreOutside b a part.Depth number = (Some number ≡ a.depth) × IsOrder a.q × I
 
 -- depth is looked at for kind ooa alone
 abbrev pub asked_depth : Kind → ℕ → Option ℕ
-asked_depth Net depth = None
-asked_depth Oa depth = None
 asked_depth Ooa depth = Some depth
-asked_depth Seq depth = None
+asked_depth kind depth = None
 
 abbrev pub ask_sizes : Ask → Sizes
 ask_sizes a = record { q = a.q; m = Some a.m; s = Some a.s; depth = asked_depth a.kind a.depth }

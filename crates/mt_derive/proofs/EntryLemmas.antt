@@ -116,10 +116,6 @@ concludes_kept b rules L M t c k kept h =
     let same : (cell_of M t ≡ cell_of L t) × (value_of M t ≡ value_of L t) × IsTree b rules M t = tree_kept b rules L M kept t h.0 in
     (same.2, same.0 ∙ h.1, same.1 ∙ h.2)
 
--- so values do not fall from L to M
-pub value_kept : (b : Bounds) (rules : RuleSet) (L M : List Entry) (c : Cell) (v w : ℕ) → Kept L M → IsValue b rules L c v → IsValue b rules M c w → v ≤ w
-value_kept b rules L M c v w kept old new = new.greatest old.tree v (concludes_kept b rules L M old.tree c v kept old.reached)
-
 -- one import more keeps all entries
 pub kept_import : (E : List Event) (c : Statement) → Kept (entries_of E) (entries_of (E ++ Import c ∷ []))
 kept_import E c n low high live =
@@ -143,16 +139,3 @@ kept_withdraw E i n low high live =
         | inr apart ↦ sym (entry_withdraw_other E i n low within apart)
       ],
     )
-
--- an axiom's tree concludes over any list
-pub axiom_concludes : (b : Bounds) (rules : RuleSet) (L : List Entry) (x : Axiom) (c : Cell) (k : ℕ) → InBounds b c → Says x c k
-    → Concludes b rules L (axiom_at x c k) c k
-axiom_concludes b rules L x c k inside says = ((inside, says), refl, refl)
-
--- a live import's tree concludes its entry
-pub import_concludes : (b : Bounds) (rules : RuleSet) (E : List Event) (n : ℕ) → IsLive E n
-    → Concludes b rules (entries_of E) (imported n) (entry_at (entries_of E) n).cell (entry_at (entries_of E) n).k
-import_concludes b rules E n live =
-    let old : (d : Statement) × IsAt (imports_of E) (n - 1) d = import_there E n live.0 live.1 in
-    let is : (entry_at (entries_of E) n).live ≡ is_live E n = ap (λ (x : Entry). x.live) (entry_is E n old.0 live.0 old.1) in
-    ((live.0, omega (arith, live.1, entries_length E), is ∙ live.2), refl, refl)

@@ -187,10 +187,7 @@ live_counted (f ∷ flags) (suc i) below is =
     let l : 1 ≤ count_set flags = live_counted flags i (omega arith) is in
     omega (arith, e, l)
 
--- there are at most twice as many events as imports, and fewer where an import is live
-pub events_few : (E : List Event) (flags : List Bool) → AreFlags E flags → length E ≤ length flags + length flags
-events_few E flags f = omega (arith, f.balance)
-
+-- there are fewer than twice as many events as imports where an import is live
 pub events_room : (E : List Event) (flags : List Bool) (n : ℕ) → AreFlags E flags → IsLive E n → length E + 1 ≤ length flags + length flags
 events_room E flags n f live =
     let number : suc (n - 1) ≡ n = omega (arith, live.0) in

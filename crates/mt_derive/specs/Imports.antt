@@ -38,10 +38,6 @@ pub record IsNamed (L : List Statement) (name : List ℕ) (n : ℕ) : Type 0 whe
   pub named : claim.name ≡ name
   pub first : LacksName (take (n - 1) L) name
 
--- systems of cells in the bounds
-abbrev pub AllInside : Bounds → List Statement → Type 0
-AllInside b L = All (λ c. InBounds b (cell_by c.form c.system)) L
-
 -- what contracts see of `Imports`
 pub record ImportList : Type 0 where
   pub bounds : Bounds

@@ -7,7 +7,7 @@ use Rattle.mt_import.specs.Texts.{IsImport, IsRefusal}
 use Rattle.mt_import.specs.Canonical.{IsTextOf}
 use Rattle.mt_cells.specs.declared.bounds.Bounds.{Bounds}
 use Rattle.mt_cells.specs.declared.asks.Part.{Part}
-use Rattle.mt_cells.specs.declared.asks.Part.TheVariants.{Q, M, S, Depth}
+use Rattle.mt_cells.specs.declared.asks.Part.TheVariants.{M, S}
 use Rattle.mt_service.specs.declared.gate.TheConstants.{MOST_CHOICES}
 use Rattle.mt_service.specs.declared.outcomes.Outcome.{Outcome}
 use Rattle.mt_service.specs.declared.outcomes.Outcome.TheVariants as outcome
@@ -16,8 +16,7 @@ use Rattle.mt_service.specs.declared.outcomes.Outcome.TheVariants as outcome
 abbrev pub IsSizeOver : Bounds → Header → Part → ℕ → ℕ → Type 0
 IsSizeOver b h M number limit = (b.m_max < h.m) × (number ≡ min h.m 255) × (limit ≡ b.m_max)
 IsSizeOver b h S number limit = (h.m ≤ b.m_max) × (b.s_max < h.s) × (number ≡ min h.s 255) × (limit ≡ b.s_max)
-IsSizeOver b h Q number limit = ⊥
-IsSizeOver b h Depth number limit = ⊥
+IsSizeOver b h name number limit = ⊥
 
 -- the text is an import text whose header has this size over its limit
 pub record IsOverLimit (b : Bounds) (text : List ℕ) (name : Part) (number limit : ℕ) : Type 0 where

@@ -30,9 +30,8 @@ comma_list numbers = join_with_byte 44 (map decimal numbers)
 
 -- the part of a sequence that fails
 abbrev pub failing_part : Form → ℕ → List ℕ
-failing_part Ooa part = []
-failing_part Net part = []
 failing_part Seq part = codes "part " ++ decimal part ++ codes " "
+failing_part form part = []
 
 -- the line for why a text is refused
 abbrev pub outcome_text : Outcome → List ℕ

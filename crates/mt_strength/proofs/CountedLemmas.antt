@@ -176,11 +176,6 @@ module _ (o : Order) (V : List (List ℕ)) (M : ℕ → ℕ → List ℕ) where
         (subst (λ m. IsFound o (rows_after (V ++ M i j ∷ []) M i m) (depth - (j + 1)) others each (n - 1) sizes) (add-one j)
         (subst (λ (U : List (List ℕ)). IsFound o (rows_after U M i (j + 1)) (depth - (j + 1)) others each (n - 1) sizes) appended found))))
 
--- the size that is found is below the number of rows
-pub found_below : (o : Order) (R : List ℕ → List (List ℕ)) (first others each n : ℕ) (c : List ℕ) → IsFound o R first others each n c → get_or c 0 0 ≤ first
-found_below o R first others each n [] found = absurd found
-found_below o R first others each n (c ∷ cs) found = found.taken.of_first
-
 -- the number of choices
 
 pub number_positive : (s each n : ℕ) → 0 < number_of_choices s each n
