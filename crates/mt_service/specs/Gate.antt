@@ -40,9 +40,13 @@ choices c = choices_by c.form c.system c.k
 abbrev pub Reads : Bounds → List ℕ → Statement → Type 0
 Reads b text c = IsTextWithin b text c × (choices c ≤ MOST_CHOICES)
 
--- why no claim is read: the text is no import text, a size is over its limit, or the choices are too many
+-- why no claim is taken of an import text: a size is over its limit, or the choices are too many
+abbrev pub IsTooLarge : Bounds → List ℕ → Outcome → Type 0
+IsTooLarge b text (outcome.Range name number limit) = IsOverLimit b text name number limit
+IsTooLarge b text (outcome.TooManyChoices count) = (c : Statement) × IsTextWithin b text c × (MOST_CHOICES < choices c) × (count ≡ min (choices c) (2 ^ 64 - 1))
+IsTooLarge b text o = ⊥
+
+-- why no claim is read: the text is no import text, or it is too large
 abbrev pub IsUnread : Bounds → List ℕ → Outcome → Type 0
 IsUnread b text (outcome.Form refused) = IsRefusal text refused
-IsUnread b text (outcome.Range name number limit) = IsOverLimit b text name number limit
-IsUnread b text (outcome.TooManyChoices count) = (c : Statement) × IsTextWithin b text c × (MOST_CHOICES < choices c) × (count ≡ min (choices c) (2 ^ 64 - 1))
-IsUnread b text (outcome.Dependent form part choice coefficients) = ⊥
+IsUnread b text o = IsTooLarge b text o

@@ -1,3 +1,10 @@
 pub mod Gate
 pub mod Checks
+pub mod Steps
+pub mod Records
+pub mod Telling
+pub mod Opening
+pub mod Laws
+pub mod Accepting
+pub mod Filling
 pub mod Texts

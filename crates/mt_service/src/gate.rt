@@ -1,7 +1,8 @@
 //! The claims that texts make within bounds.
 ghost use Rattle.std.specs.Prelude.{◌≤◌, IfOk, MatchOption, MatchResult};
 ghost use Rattle.mt_system.specs.Statements.{statement_of};
-ghost use Rattle.mt_service.specs.Gate.{IsSizeOver, Reads, IsUnread};
+ghost use Rattle.mt_import.specs.Texts.{IsImport};
+ghost use Rattle.mt_service.specs.Gate.{IsSizeOver, Reads, IsTooLarge, IsUnread};
 
 use crate::outcomes::Outcome;
 use mt_cells::{Bounds, Part};
@@ -24,10 +25,23 @@ pub fn read_claim(
     ensures { IfOk result (λ read. MatchResult read
         (λ claim. Reads bounds text.now (statement_of claim)) (IsUnread bounds text.now)) }
 {
-    let import = match ImportText::of(text) {
-        Ok(import) => import,
-        Err(refused) => return Ok(Err(Outcome::Form(refused))),
-    };
+    match ImportText::of(text) {
+        Ok(import) => claim_within(alloc, bounds, text, &import),
+        Err(refused) => Ok(Err(Outcome::Form(refused))),
+    }
+}
+
+/// The claim of the import text, or why it is too large.
+pub(crate) fn claim_within(
+    alloc: Global,
+    bounds: Bounds,
+    _text: &[u8],
+    import: &ImportText,
+) -> Result<Result<Claim, Outcome>, AllocError>
+    requires { IsImport _text.now import.now.header import.now.note import.now.digits }
+    ensures { IfOk result (λ read. MatchResult read
+        (λ claim. Reads bounds _text.now (statement_of claim)) (IsTooLarge bounds _text.now)) }
+{
     if let Some((name, number, limit)) = size_over(&import.header(), bounds) {
         return Ok(Err(Outcome::Range {
             name,

@@ -1,37 +1,169 @@
-//! The lines that tell why a text is refused.
+//! The lines that tell what comes of a text, and why records are refused.
 ghost use Rattle.std.specs.Prelude.{◌≡◌, [], ◌∷◌, ◌++◌, codes, decimal, flat_map, IfOk, OnOk};
 ghost use Rattle.mt_cells.specs.Texts.{part_text};
 ghost use Rattle.mt_service.specs.declared.gate.TheConstants.{MOST_CHOICES};
-ghost use Rattle.mt_service.specs.Texts.{form_text, failing_part, comma_list, outcome_text};
+ghost use Rattle.mt_derive.specs.declared.imports.TheConstants.{MOST_IMPORTS};
+ghost use Rattle.mt_service.specs.declared.opening.OpenRefused.TheVariants as refused;
+ghost use Rattle.mt_service.specs.Texts.{form_text, failing_part, comma_list, import_text, outcome_text, open_text};
 
 use crate::gate::MOST_CHOICES;
+use crate::opening::{OpenRefused, Why};
 use crate::outcomes::Outcome;
 use mt_cells::Part;
+use mt_derive::{MOST_EVENTS, MOST_IMPORTS};
 use mt_import::{FormRefused, MOST_BYTES, Wanted};
-use mt_system::Form;
+use mt_system::{Form, Name};
 use std::alloc::{AllocError, Global};
 
 impl Outcome {
-    /// The line that is shown for it, with its line feed.
+    /// The line that is shown for it, with its line feed. It is empty for the keeper's fault and for
+    /// want of memory.
     pub fn line(&self, alloc: Global) -> Result<Vec<u8>, AllocError>
         ensures { IfOk result (λ text. text.items ≡ outcome_text self.now) }
     {
         match self {
             Outcome::Form(refused) => form_line(alloc, *refused),
+            Outcome::NoImport { name } => name_line(alloc, b"refused: no import ", name),
+            Outcome::AlreadyWithdrawn { number, name } =>
+                import_line(alloc, b"already withdrawn ", *number, name, b"\n"),
             Outcome::Range {
                 name,
                 number,
                 limit,
             } => range_line(alloc, *name, *number, *limit),
             Outcome::TooManyChoices { count } => choices_line(alloc, *count),
+            Outcome::Already { number, name } =>
+                import_line(alloc, b"already ", *number, name, b"\n"),
+            Outcome::IsWithdrawn { number, name } =>
+                import_line(alloc, b"refused: import ", *number, name, b" is withdrawn\n"),
+            Outcome::NameTaken { number, name } => taken_line(alloc, *number, name),
+            Outcome::Full => full_line(alloc),
             Outcome::Dependent {
                 form,
                 part,
                 choice,
                 coefficients,
             } => depends(alloc, *form, *part, choice.sizes(), coefficients.digits()),
+            Outcome::KeeperFault | Outcome::Memory => Ok(Vec::new(alloc)),
+            Outcome::Accepted {
+                number,
+                name,
+                raised,
+                ..
+            } => change_line(alloc, b"accepted ", *number, name, b": raised ", *raised),
+            Outcome::Withdrawn {
+                number,
+                name,
+                lowered,
+                ..
+            } => change_line(alloc, b"withdrawn ", *number, name, b": lowered ", *lowered),
         }
     }
+}
+
+impl OpenRefused {
+    /// The line that is shown for it, with its line feed. It is empty for the keeper's fault and for
+    /// want of memory.
+    pub fn line(&self, alloc: Global) -> Result<Vec<u8>, AllocError>
+        ensures { IfOk result (λ text. text.items ≡ open_text self.now) }
+    {
+        match self {
+            OpenRefused::TooMany(count) => {
+                let text = format!(in alloc; "store: {count} records, more than {MOST_EVENTS}\n")?;
+                Ok(text.into_bytes())
+            }
+            OpenRefused::BadRecord { number, why } => bad_line(alloc, *number, *why),
+            OpenRefused::KeeperFault | OpenRefused::Memory => Ok(Vec::new(alloc)),
+        }
+    }
+}
+
+// The line for a bad record.
+fn bad_line(alloc: Global, number: u32, why: Why) -> Result<Vec<u8>, AllocError>
+    ensures { IfOk result (λ text. text.items ≡ open_text (refused.BadRecord number why)) }
+{
+    let mut text = Vec::from_slice(alloc, b"store: record ")?;
+    push_number(alloc, &mut text, number as u64)?;
+    text.extend_from_slice(b": ")?;
+    text.extend_from_slice(match why {
+        Why::Form => b"form",
+        Why::Unknown => b"unknown",
+        Why::Withdrawn => b"withdrawn",
+        Why::Range => b"range",
+        Why::Choices => b"choices",
+        Why::Name => b"name",
+        Why::Full => b"full",
+        Why::Dependent => b"dependent",
+    })?;
+    text.push(b'\n')?;
+    Ok(text)
+}
+
+// The words, and a name.
+fn name_line(alloc: Global, words: &[u8], name: &Name) -> Result<Vec<u8>, AllocError>
+    ensures { IfOk result (λ text. text.items ≡ words.now ++ name.now ++ 10 ∷ []) }
+{
+    let mut text = Vec::from_slice(alloc, words)?;
+    text.extend_from_slice(name.bytes())?;
+    text.push(b'\n')?;
+    Ok(text)
+}
+
+// The words, an import's number and name, and the end of the line.
+fn import_line(
+    alloc: Global,
+    words: &[u8],
+    number: u32,
+    name: &Name,
+    end: &[u8],
+) -> Result<Vec<u8>, AllocError>
+    ensures { IfOk result (λ text. text.items
+        ≡ words.now ++ import_text number name.now ++ end.now) }
+{
+    let mut text = Vec::from_slice(alloc, words)?;
+    push_number(alloc, &mut text, number as u64)?;
+    text.push(b' ')?;
+    text.extend_from_slice(name.bytes())?;
+    text.extend_from_slice(end)?;
+    Ok(text)
+}
+
+// The words, an import's number and name, other words, and how many values changed.
+fn change_line(
+    alloc: Global,
+    words: &[u8],
+    number: u32,
+    name: &Name,
+    others: &[u8],
+    count: u32,
+) -> Result<Vec<u8>, AllocError>
+    ensures { IfOk result (λ text. text.items
+        ≡ words.now ++ import_text number name.now ++ others.now ++ decimal count ++ 10 ∷ []) }
+{
+    let mut text = import_line(alloc, words, number, name, others)?;
+    push_number(alloc, &mut text, count as u64)?;
+    text.push(b'\n')?;
+    Ok(text)
+}
+
+fn taken_line(alloc: Global, number: u32, name: &Name) -> Result<Vec<u8>, AllocError>
+    ensures { IfOk result (λ text. text.items
+        ≡ codes "refused: name " ++ name.now ++ codes " is taken by import " ++ decimal number
+        ++ 10 ∷ []) }
+{
+    let mut text = Vec::from_slice(alloc, b"refused: name ")?;
+    text.extend_from_slice(name.bytes())?;
+    text.extend_from_slice(b" is taken by import ")?;
+    push_number(alloc, &mut text, number as u64)?;
+    text.push(b'\n')?;
+    Ok(text)
+}
+
+fn full_line(alloc: Global) -> Result<Vec<u8>, AllocError>
+    ensures { IfOk result (λ text. text.items
+        ≡ codes "refused: full at " ++ decimal MOST_IMPORTS ++ codes " imports\n") }
+{
+    Ok(format!(in alloc; "refused: full at {MOST_IMPORTS} imports\n")?.into_bytes())
 }
 
 fn form_line(alloc: Global, refused: FormRefused) -> Result<Vec<u8>, AllocError>
