@@ -1,0 +1,5 @@
+//! Tests of a store that cross crates: it is stopped, and opened again.
+#![tactic(auto)]
+
+#[cfg(test)]
+mod stopped_tests;
