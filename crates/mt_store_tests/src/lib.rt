@@ -2,4 +2,6 @@
 #![tactic(auto)]
 
 #[cfg(test)]
+mod path_tests;
+#[cfg(test)]
 mod stopped_tests;
