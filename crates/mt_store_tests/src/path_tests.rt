@@ -1,7 +1,7 @@
 //! A store in a file of this folder.
 ghost use Rattle.std.specs.Prelude.{◌≡◌, false};
 
-use mt_keeper::Keeper;
+use mt_keeper::{Keeper, KeeperRefused};
 use mt_keeper_sql::{SqlKeeper, Unopened};
 use sqlite::{File, FileStore};
 use std::fs;
@@ -9,13 +9,23 @@ use std::test::Fail;
 
 type FileKeeper = SqlKeeper<FileStore<File>>;
 
-// Why the store is not opened.
+// Why the store is not opened. Each keeper is closed, since its drop would be proved here part by part.
 fn refusal(rt: &HostRuntime, path: &str) -> Option<Unopened> {
-    SqlKeeper::open(rt, path).err()
+    match SqlKeeper::open(rt, path) {
+        Ok(keeper) => {
+            drop(keeper.close());
+            None
+        }
+        Err(why) => Some(why),
+    }
 }
 
 // Loads, and puts the text. It answers how many records there were.
-fn load_and_put(rt: &HostRuntime, keeper: &mut FileKeeper, text: &[u8]) -> Result<u32, Fail>
+fn load_and_put(
+    rt: &HostRuntime,
+    keeper: &mut FileKeeper,
+    text: &[u8],
+) -> Result<u32, KeeperRefused>
     requires { keeper.old.tells ≡ false }
 {
     let number = keeper.load(rt.alloc())?.len();
@@ -23,16 +33,19 @@ fn load_and_put(rt: &HostRuntime, keeper: &mut FileKeeper, text: &[u8]) -> Resul
     Ok(number)
 }
 
-// The same in a store that is opened for it and closed.
+// The same in a store that is opened for it, cannot be opened a second time, and is closed.
 fn opened_for(rt: &HostRuntime, path: &str, text: &[u8]) -> Result<u32, Fail> {
-    let mut keeper = SqlKeeper::open(rt, path)?;
-    let number = load_and_put(rt, &mut keeper, text)?;
-    if refusal(rt, path) != Some(Unopened::Busy) {
-        Err("opened twice")?;
-    }
-    match keeper.close() {
-        Ok(_) => Ok(number),
-        Err(refused) => Err(refused)?,
+    match SqlKeeper::open(rt, path) {
+        Ok(mut keeper) => {
+            let number = load_and_put(rt, &mut keeper, text);
+            let second = refusal(rt, path);
+            drop(keeper.close()?);
+            if second != Some(Unopened::Busy) {
+                Err("opened twice")?;
+            }
+            Ok(number?)
+        }
+        Err(why) => Err(why)?,
     }
 }
 

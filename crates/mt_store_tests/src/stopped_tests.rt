@@ -105,6 +105,7 @@ fn accepted(alloc: Global, keeper: &mut StoppingKeeper) -> [bool; 2]
     [first, second]
 }
 
+// The keeper is taken apart: that one is dropped would be proved again for all its parts.
 fn files_of(keeper: StoppingKeeper) -> Files<StoppingFile> {
     keeper.into_connection().into_store().close()
 }
@@ -143,7 +144,11 @@ fn records_after(alloc: Global, end: End, files: Files<StoppingFile>) -> Result<
         db: file_after(alloc, end, files.db)?,
     };
     match keeper_over(alloc, files) {
-        Ok(mut keeper) => Ok(load(alloc, &mut keeper)?),
+        Ok(mut keeper) => {
+            let records = load(alloc, &mut keeper);
+            drop(files_of(keeper));
+            Ok(records?)
+        }
         Err(_) => Err("the store does not open again")?,
     }
 }
