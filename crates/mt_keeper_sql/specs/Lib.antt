@@ -1,4 +1,5 @@
 pub mod Keepers
+pub mod Opening
 pub mod Rows
 pub mod Standing
 pub mod Store

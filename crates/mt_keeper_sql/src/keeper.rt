@@ -26,7 +26,7 @@ pub struct SqlKeeper<S: Alter> {
     connection: Connection<S>,
     tells: bool,
     refused: bool,
-    faults: u64,
+    pub(crate) faults: u64,
 }
 
 impl<S: Alter> Model for SqlKeeper<S> {
@@ -151,7 +151,7 @@ fn read_all<S: Alter>(alloc: Global, connection: &mut Connection<S>) -> Result<R
 }
 
 // What a refused statement is answered by: want of memory as such, and all else as a counted fault.
-fn refusal(error: Error, faults: &mut u64) -> KeeperRefused
+pub(crate) fn refusal(error: Error, faults: &mut u64) -> KeeperRefused
     ensures memory { (result ≡ Memory) ↔ (error ≡ SqliteFailure OutOfMemory) }
     ensures later { faults.old ≤ faults.new }
     ensures rose { result ≡ Fault → Rose faults.old faults.new }
