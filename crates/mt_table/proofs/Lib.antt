@@ -1,3 +1,4 @@
+mod NeedLemmas
 mod NodeLemmas
 mod StartLemmas
 mod LineLemmas

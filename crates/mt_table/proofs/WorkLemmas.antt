@@ -17,7 +17,9 @@ use Rattle.mt_cells.proofs.SpotLemmas.{inside}
 use Rattle.mt_derive.proofs.ConcludedLemmas.{conclude_push, place_longer}
 use Rattle.mt_table.specs.declared.work.Work.{Work}
 use Rattle.mt_table.specs.Shapes.{sum_of}
+use Rattle.mt_table.specs.Needs.{IsNeeded}
 use Rattle.mt_table.specs.Works.{value_in, AllShown, AllDone, IsFlagged, IsIdle, IsPropagated, AllPropagated, waiting, Grows, node_by, IsPut, AllStay, IsRaised, IsTaken, IsOver, Rises, Propagates}
+use Rattle.mt_table.proofs.NeedLemmas.{all_done}
 use Rattle.mt_table.proofs.NodeLemmas.{node_concludes}
 
 -- ---- growth
@@ -162,8 +164,8 @@ second_parent f c None e = inl e
 second_parent f c (Some y) e = inr (ap (λ (x : Cell). Some x) e)
 
 -- after a cell was taken out and all its instances were tried
-pub propagated_after : (v u w : Work) (c : Cell) (n : ℕ) → IsTaken v u n → InBounds u.bounds c → number u.bounds c ≡ n → AllPropagated v → Grows u w → ((i : Instance) → IsInstance u.bounds u.rules i → HasParent c i → IsPropagated w i) → AllPropagated w
-propagated_after v u w c n t h en all g tried i k = go (all i kv)
+pub propagated_after : (v u w : Work) (c : Cell) (n : ℕ) → IsTaken v u n → InBounds u.bounds c → number u.bounds c ≡ n → AllPropagated v → Grows u w → ((i : Instance) → IsInstance u.bounds u.rules i → HasParent c i → IsNeeded u.rules i → IsPropagated w i) → AllPropagated w
+propagated_after v u w c n t h en all g tried i k x = go (all i kv (rw t.rules at xu))
   where
     ku : IsInstance u.bounds u.rules i
     ku = rw (g.bounds, g.rules) at k
@@ -171,30 +173,33 @@ propagated_after v u w c n t h en all g tried i k = go (all i kv)
     kv : IsInstance v.bounds v.rules i
     kv = rw (t.bounds, t.rules) at ku
 
+    xu : IsNeeded u.rules i
+    xu = rw g.rules at x
+
     still : (e : Cell) → IsFlagged v e → number u.bounds e ≢ n → IsFlagged u e
     still e f ne = rw t.flags (get_or-set_other v.flags.items n (number u.bounds e) false false ne ∙ rw t.bounds f)
 
     go : IsPropagated v i → IsPropagated w i
     go (inl d) = propagated_grows u w i g (inl (rw (t.bounds, t.values) d))
     go (inr (inl f)) = ⊎_elim
-        (λ (e : number u.bounds i.first ≡ n). tried i ku (inl (number_apart u.bounds i.first c ku.first h (e ∙ sym en))))
+        (λ (e : number u.bounds i.first ≡ n). tried i ku (inl (number_apart u.bounds i.first c ku.first h (e ∙ sym en))) xu)
         (λ (ne : number u.bounds i.first ≢ n). propagated_grows u w i g (inr (inl (still i.first f ne))))
         (cases_eq (number u.bounds i.first) n)
     go (inr (inr f)) = ⊎_elim
-        (λ (e : number u.bounds (second_of i) ≡ n). tried i ku (second_parent i.first c i.second (number_apart u.bounds (second_of i) c (inside u.bounds u.rules i ku).1 h (e ∙ sym en))))
+        (λ (e : number u.bounds (second_of i) ≡ n). tried i ku (second_parent i.first c i.second (number_apart u.bounds (second_of i) c (inside u.bounds u.rules i ku).1 h (e ∙ sym en))) xu)
         (λ (ne : number u.bounds (second_of i) ≢ n). propagated_grows u w i g (inr (inr (still (second_of i) f ne))))
         (cases_eq (number u.bounds (second_of i)) n)
 
 pub done_at_end : (w : Work) → AllPropagated w → IsIdle w → AllDone w
-done_at_end w all idle i k = go (all i k)
+done_at_end w all idle = all_done w.bounds w.rules (value_in w) (λ i k x. go i (all i k x))
   where
     none : (n : ℕ) → get_or w.flags.items n false ≡ true → ⊥
     none n f = let e : get_or w.flags.items n false ≡ false = idle n in cc
 
-    go : IsPropagated w i → IsDone (value_in w) i
-    go (inl d) = d
-    go (inr (inl f)) = absurd (none _ f)
-    go (inr (inr f)) = absurd (none _ f)
+    go : (i : Instance) → IsPropagated w i → IsDone (value_in w) i
+    go i (inl d) = d
+    go i (inr (inl f)) = absurd (none _ f)
+    go i (inr (inr f)) = absurd (none _ f)
 
 -- ---- the measure
 

@@ -18,6 +18,7 @@ use Rattle.mt_derive.specs.Concluded.{AllConclude}
 use Rattle.mt_derive.specs.Places.{IsAt}
 use Rattle.mt_table.specs.declared.work.Work.{Work}
 use Rattle.mt_table.specs.Shapes.{sum_of}
+use Rattle.mt_table.specs.Needs.{IsNeeded, IsPart}
 use Rattle.mt_table.specs.Starts.{StartsWithAxioms, AreSet}
 
 -- ---- the values
@@ -53,20 +54,25 @@ IsIdle w = (n : ℕ) → get_or w.flags.items n false ≡ false
 abbrev pub IsPropagated : Work → Instance → Type 0
 IsPropagated w i = IsDone (value_in w) i ⊎ (IsFlagged w i.first ⊎ IsFlagged w (second_of i))
 
+-- so is every instance that does not follow from others
 abbrev pub AllPropagated : Work → Type 0
-AllPropagated w = (i : Instance) → IsInstance w.bounds w.rules i → IsPropagated w i
+AllPropagated w = (i : Instance) → IsInstance w.bounds w.rules i → IsNeeded w.rules i → IsPropagated w i
 
 -- the line is one of the cell's, as a parent
 abbrev pub IsLineOf : Work → Cell → Line → Type 0
 IsLineOf w c l = IsRightLine w.bounds w.rules c l.stage l.m l.depth l
 
--- the instances of the line in v are propagated in w
-abbrev pub LinePropagated : Work → Cell → Line → Work → Type 0
-LinePropagated v c l w = (s : ℕ) → IsSpot v.bounds v.rules c l.stage l.m l.depth s → IsPropagated w (instance_at c l.stage l.m l.depth s)
+-- so is a part of it that has the spots of all needed instances
+abbrev pub IsNeededLine : Work → Cell → Line → Type 0
+IsNeededLine w c l = IsPart w.bounds w.rules c l.stage l.m l.depth l.skip l.first l.last
 
--- the instances with the parent in v are propagated in w
+-- the needed instances of the line in v are propagated in w
+abbrev pub LinePropagated : Work → Cell → Line → Work → Type 0
+LinePropagated v c l w = (s : ℕ) → IsSpot v.bounds v.rules c l.stage l.m l.depth s → IsNeeded v.rules (instance_at c l.stage l.m l.depth s) → IsPropagated w (instance_at c l.stage l.m l.depth s)
+
+-- the needed instances with the parent in v are propagated in w
 abbrev pub ParentPropagated : Work → Cell → Work → Type 0
-ParentPropagated v c w = (i : Instance) → IsInstance v.bounds v.rules i → HasParent c i → IsPropagated w i
+ParentPropagated v c w = (i : Instance) → IsInstance v.bounds v.rules i → HasParent c i → IsNeeded v.rules i → IsPropagated w i
 
 -- ---- steps
 

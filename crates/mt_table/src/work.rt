@@ -1,9 +1,10 @@
 //! Values of cells with their derivations, and the cells whose value rose.
 ghost use Rattle.std.specs.Prelude.{◌≡◌, ℕ, ◌+◌, ◌*◌, List, length};
 ghost use Rattle.mt_cells.specs.declared.bounds.TheConstants.{MOST_COLUMNS};
-ghost use Rattle.mt_cells.specs.Cells.{cells_of};
+ghost use Rattle.mt_cells.specs.Cells.{coordinates_of, cells_of};
 ghost use Rattle.mt_table.specs.Shapes.{IsShaped, NoneBefore, ArePlaced, ArePlaced-prop, HasRoom, AreTops, sum_of};
 ghost use Rattle.mt_table.specs.Starts.{StartsWithAxioms, AreSet};
+ghost use Rattle.mt_table.specs.Needs.{depth_of};
 
 use mt_cells::{
     Bounds, Cell, Instance, Line, Rule, RuleSet, Stage, Steps, conclude, lines_of_parent,
@@ -69,17 +70,36 @@ fn set_to_axioms(
     }
 }
 
+// The rows of each coordinate of the cell's systems; 0 for a sequence.
+fn depth(cell: Cell) -> u8
+    ensures { result ≡ depth_of cell }
+{
+    match cell {
+        Cell::Ooa { depth, .. } => depth,
+        Cell::Seq { .. } => 0,
+    }
+}
+
+fn coordinates(cell: Cell) -> u8
+    ensures { result ≡ coordinates_of cell }
+{
+    match cell {
+        Cell::Ooa { s, .. } | Cell::Seq { s, .. } => s,
+    }
+}
+
 impl Work {
-    ghost use Rattle.std.specs.Prelude.{◌<◌, ◌≤◌, ◌⊎◌, false, IsTrue, IfOk, IfSome, IfNone};
-    ghost use Rattle.mt_cells.specs.Cells.{InBounds, columns_of};
+    ghost use Rattle.std.specs.Prelude.{◌<◌, ◌≤◌, ◌⊎◌, true, false, get_or, IsTrue, IfOk, IfSome, IfNone};
+    ghost use Rattle.mt_cells.specs.Cells.{InBounds, columns_of, number};
     ghost use Rattle.mt_derive.specs.Closed.{second_of};
-    ghost use Rattle.mt_cells.specs.Instances.{IsInstance, conclusion_of, fan_of};
-    ghost use Rattle.mt_cells.specs.Spots.{IsUsed};
+    ghost use Rattle.mt_cells.specs.Instances.{IsInstance, conclusion_of, fan_of, has_rule};
+    ghost use Rattle.mt_cells.specs.Spots.{IsUsed, instance_at};
+    ghost use Rattle.mt_table.specs.Needs.{IsNeeded, AllFollow};
     ghost use Rattle.mt_derive.specs.Nodes.{IsRight};
     ghost use Rattle.mt_derive.specs.declared.nodes.Made.TheVariants.{Import};
     ghost use Rattle.mt_derive.specs.Events.{entries_of};
     ghost use Rattle.mt_derive.specs.Values.{sum_to};
-    ghost use Rattle.mt_table.specs.Works.{values_of, value_in, node_number_in, made_of, IsStart, AllPropagated, IsPropagated, IsLineOf, LinePropagated};
+    ghost use Rattle.mt_table.specs.Works.{values_of, value_in, node_number_in, made_of, IsStart, AllPropagated, IsPropagated, IsLineOf, IsNeededLine, LinePropagated};
     ghost use Rattle.mt_table.specs.Works.{IsCopy, ParentPropagated, Grows, IsPut, IsRaised, IsTaken, IsOver, Rises, Propagates};
     ghost use Rattle.mt_table.specs.Works.{IsIdle, AllDone, Pays, Tries, Accepts};
     ghost use Rattle.mt_table.specs.Fixed.{StandsOn, LiveFit};
@@ -202,15 +222,15 @@ impl Work {
     }
 
     // The target takes what the instance concludes for its value, and waits.
-    fn raise(&mut self, instance: &Instance, k: u8)
-        requires instance { IsInstance self.old.bounds self.old.rules instance.now }
-        requires concluded { k ≡ conclusion_of instance.now (value_in self.old instance.now.first)
-            (value_in self.old (second_of instance.now)) }
-        requires higher { value_in self.old instance.now.target < k }
+    fn raise(&mut self, instance: Instance, k: u8)
+        requires instance { IsInstance self.old.bounds self.old.rules instance }
+        requires concluded { k ≡ conclusion_of instance (value_in self.old instance.first)
+            (value_in self.old (second_of instance)) }
+        requires higher { value_in self.old instance.target < k }
         requires high { k ≤ MOST_COLUMNS }
-        ensures { IsRaised self.old self.new instance.now k }
+        ensures { IsRaised self.old self.new instance k }
     {
-        let made = self.made_by(instance);
+        let made = self.made_by(&instance);
         self.put(Node {
             made,
             cell: instance.target,
@@ -236,28 +256,160 @@ impl Work {
         self.from = self.from.min(n);
     }
 
-    // Tries the instance once.
+    // Whether the parent beside the one whose instances are tried waits too. Then the instance is
+    // tried when that one is taken.
     #[inline(always)]
-    fn offer<L: Ledger>(&mut self, instance: &Instance, steps: &mut Steps<L>)
-        requires { IsInstance self.old.bounds self.old.rules instance.now }
+    fn waits_beside(&self, stage: Stage, instance: &Instance) -> bool
+        requires { IsInstance self.now.bounds self.now.rules instance.now }
+        ensures { IsTrue result → IsPropagated self.now instance.now }
+    {
+        match stage {
+            Stage::Second(_) => self.waits(instance.first),
+            _ => self.waits(instance.other()),
+        }
+    }
+
+    #[inline(always)]
+    fn waits(&self, cell: Cell) -> bool
+        requires { InBounds self.now.bounds cell }
+        ensures { result ≡ get_or self.now.flags.items (number self.now.bounds cell) false }
+    {
+        self.flags[cell.number(self.bounds) as usize]
+    }
+
+    // Tries the instance once, unless its other parent waits, and counts it.
+    #[inline(always)]
+    fn offer<L: Ledger>(&mut self, stage: Stage, instance: Instance, steps: &mut Steps<L>) -> u64
+        requires { IsInstance self.old.bounds self.old.rules instance }
         ensures grows { Grows self.old self.new }
-        ensures propagated { IsPropagated self.new instance.now }
+        ensures propagated { IsPropagated self.new instance }
+        ensures counted { steps.new ≡ steps.old + result }
+        ensures once { result ≤ 1 }
+    {
+        if self.waits_beside(stage, &instance) {
+            return 0;
+        }
+        self.conclude(instance, steps);
+        1
+    }
+
+    // Raises the target to what the instance concludes, if that is more.
+    #[inline(always)]
+    fn conclude<L: Ledger>(&mut self, instance: Instance, steps: &mut Steps<L>)
+        requires { IsInstance self.old.bounds self.old.rules instance }
+        ensures grows { Grows self.old self.new }
+        ensures propagated { IsPropagated self.new instance }
         ensures once { steps.new ≡ steps.old + 1 }
     {
         let first = self.value(instance.first);
         let second = self.value(instance.other());
-        let k = conclude(instance, first, second, steps);
+        let k = conclude(&instance, first, second, steps);
         if self.value(instance.target) < k {
             self.raise(instance, k);
         }
     }
 
-    // Tries each instance of the line once, and counts them. In a loop of its own for each rule with
-    // two parents the stage is a constant, so that nothing is decided anew for each instance.
+    // Whether a product may follow from (u,u+v).
+    fn may_follow_uuv(&self, rule: Rule) -> bool
+        ensures { IsTrue result → (rule ≡ Rule.Product)
+            × (has_rule self.now.rules Rule.Uuv ≡ true) }
+    {
+        match rule {
+            Rule::Product => self.rules.has(Rule::Uuv),
+            _ => false,
+        }
+    }
+
+    // Whether all pairs follow from others whose first parent has these columns and this depth, and
+    // whose second parent is as deep as that.
+    fn all_follow(&self, rule: Rule, m: u8, depth: u8, deeper: u8) -> bool
+        ensures { IsTrue result → AllFollow self.now.rules rule m depth deeper }
+    {
+        if self.rules.has(Rule::Deeper) && depth < m.min(deeper) {
+            return true;
+        }
+        self.may_follow_uuv(rule) && deeper <= depth
+    }
+
+    // No pair with the cell as first that does not follow from others has a greater `s` in the line.
+    fn last_needed(&self, rule: Rule, cell: Cell, line: &Line) -> u8
+        ensures low { result ≤ line.now.last }
+        ensures all { (s : ℕ) → s ≤ line.now.last → IsNeeded self.now.rules
+            (instance_at cell (Stage.First rule) line.now.m line.now.depth s) → s ≤ result }
+    {
+        if self.all_follow(rule, cell.columns(), depth(cell), line.depth) {
+            return 0;
+        }
+        if self.may_follow_uuv(rule) {
+            return line.last.min(coordinates(cell).saturating_sub(1));
+        }
+        line.last
+    }
+
+    // None with the cell as second has a lower `s`.
+    fn first_needed(&self, rule: Rule, cell: Cell, line: &Line) -> u8
+        ensures { (s : ℕ) → s ≤ line.now.last → IsNeeded self.now.rules
+            (instance_at cell (Stage.Second rule) line.now.m line.now.depth s) → result ≤ s }
+    {
+        if self.all_follow(rule, line.m, line.depth, depth(cell)) {
+            return u8::MAX;
+        }
+        if self.may_follow_uuv(rule) {
+            return coordinates(cell).saturating_add(1);
+        }
+        0
+    }
+
+    // The part of the line that has all instances which do not follow from others.
+    fn needed(&self, cell: Cell, line: &Line) -> Line
+        requires right { IsLineOf self.now cell line.now }
+        requires some { line.now.first ≤ line.now.last }
+        ensures stage { result.stage ≡ line.now.stage }
+        ensures m { result.m ≡ line.now.m }
+        ensures depth { result.depth ≡ line.now.depth }
+        ensures last { result.last ≤ line.now.last }
+        ensures part { IsNeededLine self.now cell result }
+    {
+        match line.stage {
+            Stage::First(rule) => {
+                let last = self.last_needed(rule, cell, line);
+                Line {
+                    last: last.max(line.first - 1),
+                    ..*line
+                }
+            }
+            Stage::Second(rule) => {
+                let first = self.first_needed(rule, cell, line);
+                Line {
+                    first: first.min(line.last + 1).max(line.first),
+                    ..*line
+                }
+            }
+            _ => *line,
+        }
+    }
+
+    // Tries each instance of the line that does not follow from others once, unless its other parent
+    // waits, and counts those.
     fn try_line<L: Ledger>(&mut self, cell: Cell, line: &Line, steps: &mut Steps<L>) -> u64
         requires inside { InBounds self.old.bounds cell }
         requires right { IsLineOf self.old cell line.now }
         requires some { line.now.first ≤ line.now.last }
+        ensures grows { Grows self.old self.new }
+        ensures tried { LinePropagated self.old cell line.now self.new }
+        ensures counted { steps.new ≡ steps.old + result }
+        ensures few { result ≤ line.now.last }
+        ensures used { (result ≡ 0) ⊎ IsUsed line.now.stage }
+    {
+        let part = self.needed(cell, line);
+        self.try_part(cell, &part, steps)
+    }
+
+    // The same of such a part. In a loop of its own for each rule with two parents the stage is a
+    // constant, so that nothing is decided anew for each instance.
+    fn try_part<L: Ledger>(&mut self, cell: Cell, line: &Line, steps: &mut Steps<L>) -> u64
+        requires inside { InBounds self.old.bounds cell }
+        requires right { IsNeededLine self.old cell line.now }
         ensures grows { Grows self.old self.new }
         ensures tried { LinePropagated self.old cell line.now self.new }
         ensures counted { steps.new ≡ steps.old + result }
@@ -293,8 +445,7 @@ impl Work {
         steps: &mut Steps<L>,
     ) -> u64
         requires inside { InBounds self.old.bounds cell }
-        requires right { IsLineOf self.old cell line.now }
-        requires some { line.now.first ≤ line.now.last }
+        requires right { IsNeededLine self.old cell line.now }
         requires stage { line.now.stage ≡ stage }
         ensures grows { Grows self.old self.new }
         ensures tried { LinePropagated self.old cell line.now self.new }
@@ -309,8 +460,7 @@ impl Work {
     #[inline(always)]
     fn run_line<L: Ledger>(&mut self, cell: Cell, line: &Line, steps: &mut Steps<L>) -> u64
         requires inside { InBounds self.old.bounds cell }
-        requires right { IsLineOf self.old cell line.now }
-        requires some { line.now.first ≤ line.now.last }
+        requires right { IsNeededLine self.old cell line.now }
         ensures grows { Grows self.old self.new }
         ensures tried { LinePropagated self.old cell line.now self.new }
         ensures counted { steps.new ≡ steps.old + result }
@@ -321,8 +471,7 @@ impl Work {
         for s in line.first..line.last + 1 {
             if s != line.skip {
                 let instance = line.instance(self.bounds, self.rules, cell, s);
-                self.offer(&instance, steps);
-                count += 1;
+                count += self.offer(line.stage, instance, steps);
             }
         }
         count

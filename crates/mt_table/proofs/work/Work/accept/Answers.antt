@@ -12,7 +12,7 @@ pub put-requires-clause-high : goal.put-requires-clause-high
 put-requires-clause-high g c = le_trans c.requires.within (columns_high c.args.self.now.bounds c.args.node.cell c.requires.inside)
 
 pub propagate-requires : goal.propagate-requires
-propagate-requires g c = λ i k.
+propagate-requires g c = λ i k _.
     propagated_put c.args.self.now c.put.new.self c.args.node i c.requires.inside (rw c.value.ensures.value at c.if-node-value.false) c.put.ensures (c.requires.done i (rw (c.put.ensures.bounds, c.put.ensures.rules) at k))
 
 pub returns-clause-accepts : goal.returns-clause-accepts

@@ -28,7 +28,7 @@ loop-line-init g c = (
   search rules,
   search rules,
   search rules,
-  λ h m d s p l. absurd (omega (arith, l, c.lines_of_parent-lines.ensures.first h m d s p)),
+  λ h m d s p x l. absurd (omega (arith, l, c.lines_of_parent-lines.ensures.first h m d s p)),
   omega arith,
   spends_none c.args.self.now.bounds _,
 )
