@@ -15,7 +15,7 @@ use Rattle.mt_cells.specs.Instances.{has_rule, IsInstance, Leads, conclusion_by,
 use Rattle.mt_cells.specs.Spots.{least_second, pair_instance, single_instance}
 use Rattle.mt_cells.proofs.RuleLemmas.{Fit, pair_rule, pair_least, has_second}
 use Rattle.mt_derive.specs.Closed.{IsDone}
-use Rattle.mt_table.specs.Needs.{depth_of, IsDeepest, IsOwn, IsNeeded, AllFollow}
+use Rattle.mt_table.specs.Needs.{depth_of, IsDeepest, IsOwn, IsNeeded, NoneNeeded}
 use Rattle.std.proofs.lemmas.Bool.{lt-ltb, eq-eqb}
 
 -- the target has what the rule concludes from the two
@@ -142,6 +142,6 @@ all_done b rules value needed i h = by_parts i.rule i.target i.first i.second h.
 -- ---- lines
 
 -- where all follow none is needed
-pub follow_not : (rules : RuleSet) (r : Rule) (p q : Cell) → AllFollow rules r (columns_of p) (depth_of p) (depth_of q) → IsDeepest rules p q → IsOwn rules r p q → ⊥
+pub follow_not : (rules : RuleSet) (r : Rule) (p q : Cell) → NoneNeeded rules r (columns_of p) (depth_of p) (depth_of q) → IsDeepest rules p q → IsOwn rules r p q → ⊥
 follow_not rules r p q (inl h) deep own = let l : min (columns_of p) (depth_of q) ≤ depth_of p = deep h.0 in omega (arith, h.1)
 follow_not rules r p q (inr h) deep own = let l = own h.0 h.1 in omega (arith, h.2, l.1)

@@ -35,8 +35,8 @@ abbrev pub IsNeeded : RuleSet → Instance → Type 0
 IsNeeded rules i = IsNeededBy rules i.rule i.first i.second
 
 -- no needed instance of the rule has a first parent with m columns and this depth, and a second as deep as that
-abbrev pub AllFollow : RuleSet → Rule → ℕ → ℕ → ℕ → Type 0
-AllFollow rules r m depth deeper = ((has_rule rules Deeper ≡ true) × (depth < min m deeper)) ⊎ ((r ≡ Product) × (has_rule rules Uuv ≡ true) × (deeper ≤ depth))
+abbrev pub NoneNeeded : RuleSet → Rule → ℕ → ℕ → ℕ → Type 0
+NoneNeeded rules r m depth deeper = ((has_rule rules Deeper ≡ true) × (depth < min m deeper)) ⊎ ((r ≡ Product) × (has_rule rules Uuv ≡ true) × (deeper ≤ depth))
 
 -- from first to last, but for skip, there are spots only, and those of all needed instances
 pub record IsPart (b : Bounds) (rules : RuleSet) (c : Cell) (g : Stage) (m d skip first last : ℕ) : Type 0 where

@@ -94,7 +94,7 @@ impl Work {
     ghost use Rattle.mt_derive.specs.Closed.{second_of};
     ghost use Rattle.mt_cells.specs.Instances.{IsInstance, conclusion_of, fan_of, has_rule};
     ghost use Rattle.mt_cells.specs.Spots.{IsUsed, instance_at};
-    ghost use Rattle.mt_table.specs.Needs.{IsNeeded, AllFollow};
+    ghost use Rattle.mt_table.specs.Needs.{IsNeeded, NoneNeeded};
     ghost use Rattle.mt_derive.specs.Nodes.{IsRight};
     ghost use Rattle.mt_derive.specs.declared.nodes.Made.TheVariants.{Import};
     ghost use Rattle.mt_derive.specs.Events.{entries_of};
@@ -323,7 +323,7 @@ impl Work {
     // Whether all pairs follow from others whose first parent has these columns and this depth, and
     // whose second parent is as deep as that.
     fn all_follow(&self, rule: Rule, m: u8, depth: u8, deeper: u8) -> bool
-        ensures { IsTrue result → AllFollow self.now.rules rule m depth deeper }
+        ensures { IsTrue result → NoneNeeded self.now.rules rule m depth deeper }
     {
         if self.rules.has(Rule::Deeper) && depth < m.min(deeper) {
             return true;
