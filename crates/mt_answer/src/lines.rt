@@ -1,5 +1,5 @@
 //! The lines of answers.
-ghost use Rattle.std.specs.Prelude.{◌≡◌, [], ◌∷◌, ◌++◌, codes, decimal, IfOk, OnOk};
+ghost use Rattle.std.specs.Prelude.{◌≡◌, [], ◌∷◌, ◌++◌, codes, decimal, string_bytes, IfOk, OnOk};
 ghost use Rattle.mt_cells.specs.Texts.{cell_text};
 ghost use Rattle.mt_answer.specs.Texts.{ask_text, value_text, made_text, parents_text, node_text, nodes_text, outside_line_text};
 
@@ -84,26 +84,23 @@ fn push_rule(alloc: Global, text: &mut Vec<u8>, made: Made) -> Result<(), AllocE
         ++ (32 ∷ made_text made ++ 32 ∷ parents_text made)) }
 {
     text.push(b' ')?;
-    push_made(alloc, text, made)?;
+    text.extend_from_slice(made_word(alloc, made)?.as_bytes())?;
     text.push(b' ')?;
     push_parents(alloc, text, made)
 }
 
-// Adds the name of an axiom, an import or a rule.
-fn push_made(alloc: Global, text: &mut Vec<u8>, made: Made) -> Result<(), AllocError>
-    ensures { OnOk result (text.new.items ≡ text.old.items ++ made_text made) }
+/// The name of an axiom, an import or a rule.
+pub(crate) fn made_word(alloc: Global, made: Made) -> Result<String, AllocError>
+    ensures { IfOk result (λ word. string_bytes word ≡ made_text made) }
 {
     match made {
-        Made::Zero => text.extend_from_slice(b"zero"),
-        Made::Constant => text.extend_from_slice(b"constant"),
-        Made::Identity => text.extend_from_slice(b"identity"),
-        Made::Parity => text.extend_from_slice(b"parity"),
-        Made::Niederreiter => text.extend_from_slice(b"niederreiter"),
-        Made::Import(n) => push_labelled(alloc, text, b"import/", n as u64),
-        Made::One(rule, _) | Made::Two(rule, _, _) => {
-            let word = format!(in alloc; "{rule}")?;
-            text.extend_from_slice(word.as_bytes())
-        }
+        Made::Zero => String::from_str(alloc, "zero"),
+        Made::Constant => String::from_str(alloc, "constant"),
+        Made::Identity => String::from_str(alloc, "identity"),
+        Made::Parity => String::from_str(alloc, "parity"),
+        Made::Niederreiter => String::from_str(alloc, "niederreiter"),
+        Made::Import(n) => format!(in alloc; "import/{n}"),
+        Made::One(rule, _) | Made::Two(rule, _, _) => format!(in alloc; "{rule}"),
     }
 }
 

@@ -5,13 +5,12 @@ use Rattle.mt_system.specs.Statements.{Statement}
 use Rattle.mt_cells.specs.declared.bounds.Bounds.{Bounds}
 use Rattle.mt_cells.specs.declared.cells.Cell.{Cell}
 use Rattle.mt_cells.specs.declared.rules.RuleSet.{RuleSet}
-use Rattle.mt_cells.specs.Cells.{InBounds}
 use Rattle.mt_cells.specs.Rules.{conclusion}
 use Rattle.mt_derive.specs.declared.events.Event.{Event}
 use Rattle.mt_derive.specs.declared.events.Event.TheVariants.{Import, Withdraw}
-use Rattle.mt_derive.specs.Events.{imports_of, is_live, IsLive, entry_of, entries_from, entries_of}
+use Rattle.mt_derive.specs.Events.{imports_of, entry_of, entries_from, entries_of}
 use Rattle.mt_derive.specs.Places.{IsAt}
-use Rattle.mt_derive.specs.Trees.{Axiom, Says, Entry, no_entry, entry_at, Tree, axiom_at, imported, one, two, cell_of, value_of, IsTree, Concludes, IsValue}
+use Rattle.mt_derive.specs.Trees.{Entry, no_entry, entry_at, Tree, axiom_at, imported, one, two, cell_of, value_of, IsTree, Concludes}
 use Rattle.mt_derive.proofs.PlaceLemmas.{place_some, place_last}
 use Rattle.mt_derive.proofs.EventLemmas.{imports_append, imports_withdraw, live_import, live_withdraw_other, live_withdrawn}
 

@@ -9,7 +9,6 @@ use Rattle.mt_strength.specs.Statements.{Holds}
 use Rattle.mt_cells.specs.declared.bounds.Bounds.{Bounds}
 use Rattle.mt_cells.specs.declared.cells.Cell.{Cell}
 use Rattle.mt_cells.specs.declared.cells.Cell.TheVariants.{Ooa, Seq}
-use Rattle.mt_cells.specs.Cells.{InBounds}
 use Rattle.mt_derive.specs.declared.events.Event.{Event}
 use Rattle.mt_derive.specs.Places.{IsAt}
 

@@ -29,6 +29,9 @@ pub record Spends (b : Bounds) (k tried : ℕ) : Type 0 where
   pub few : tried ≤ fan_of b
   pub rest : (g : Stage) (m d : ℕ) → IsUsed g → IsPosition b g m d → k ≤ key g m d → tried + left b g m d ≤ fan_of b
 
+pub spends_none : (b : Bounds) (k : ℕ) → Spends b k 0
+spends_none b k = record { few = omega arith; rest = λ g m d u p l. omega (arith, left_high b g m d u) }
+
 -- one more line
 pub spends_line : (b : Bounds) (k next tried count : ℕ) (g : Stage) (m d : ℕ) → IsPosition b g m d → k ≤ key g m d → key g m d < next → count ≤ width b g → (count ≡ 0) ⊎ IsUsed g
     → Spends b k tried → Spends b next (tried + count)
