@@ -43,7 +43,7 @@ shown a = record { status = a.status; media = a.media; body = a.body.items }
 
 -- the body is the data's compact text
 abbrev pub json_reply : ℕ → Data → Reply
-json_reply status data = record { status = status; media = Json; body = compact_text data }
+json_reply status d = record { status = status; media = Json; body = compact_text d }
 
 -- the reply with what holds over so many imports; matrices and comma-separated values are the command line's texts
 abbrev pub reply_of : Fact → ℕ → Reply

@@ -68,18 +68,18 @@ parents_data (made.Two r p q) = natural (p + 1) ∷ natural (q + 1) ∷ []
 parents_data made = []
 
 abbrev pub node_data : ℕ → Node → Data
-node_data number node = object (members (
+node_data n node = object (members (
     (codes "cell", string (cell_text node.cell))
     ∷ (codes "k", natural node.k)
-    ∷ (codes "node", natural number)
+    ∷ (codes "node", natural n)
     ∷ (codes "parents", array (items_of (parents_data node.made)))
     ∷ (codes "rule", string (made_text node.made))
     ∷ []))
 
 -- the nodes, numbered from this number on
 unfoldable pub nodes_data : ℕ → List Node → List Data
-nodes_data number [] = []
-nodes_data number (node ∷ nodes) = node_data number node ∷ nodes_data (number + 1) nodes
+nodes_data n [] = []
+nodes_data n (node ∷ nodes) = node_data n node ∷ nodes_data (n + 1) nodes
 
 abbrev pub tree_data : List Node → ℕ → Data
 tree_data nodes version = object (members (
@@ -91,8 +91,8 @@ tree_data nodes version = object (members (
 
 -- the first number that is outside the bounds
 abbrev pub outside_data : Part → ℕ → Data
-outside_data name number = object (members (
+outside_data name n = object (members (
     (codes "error", string (codes "outside"))
     ∷ (codes "name", string (part_text name))
-    ∷ (codes "number", natural number)
+    ∷ (codes "number", natural n)
     ∷ []))

@@ -6,3 +6,4 @@ pub mod Answers
 pub mod Laws
 pub mod Places
 pub mod Fields
+pub mod Spelled

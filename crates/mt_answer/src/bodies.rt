@@ -1,17 +1,21 @@
 //! The bodies of answers that are JSON: compact, with keys in byte order.
-ghost use Rattle.std.specs.Prelude.{◌≡◌, map, IfOk};
+ghost use Rattle.std.specs.Prelude.{◌≡◌, ◌++◌, map, IfOk, OnOk};
 ghost use Rattle.serde_json.specs.Data.{array};
 ghost use Rattle.serde_json.specs.Written.{compact_text};
 ghost use Rattle.serde_json.specs.View.{view, items_of};
+ghost use Rattle.mt_answer.specs.Spelled.{asked_spelled, value_spelled};
 ghost use Rattle.mt_answer.specs.Bodies.{depth_of, number_or_null, value_data, least_data, version_data, parents_data, node_data, nodes_data, tree_data, outside_data};
 
-use crate::lines::made_word;
+use crate::lines::{made_word, push_labelled};
 use mt_cells::{Ask, Kind, Outside};
 use mt_derive::{Made, Node};
 use serde_json::{Value, json};
 use std::alloc::{AllocError, Global};
 
-/// The body for a value. It is what is asked for most, so no tree of JSON is made for it.
+// Room for the body of most values.
+const VALUE_ROOM: usize = 128;
+
+/// The body for a value. It is what is asked for most, so it is written without a tree of JSON.
 pub(crate) fn value_body(
     alloc: Global,
     ask: &Ask,
@@ -21,12 +25,42 @@ pub(crate) fn value_body(
 ) -> Result<Vec<u8>, AllocError>
     ensures { IfOk result (λ body. body.items ≡ compact_text (value_data ask.now k since version)) }
 {
-    let (kind, q, m, s, depth) = (ask.kind, ask.q, ask.m, ask.s, shown_depth(ask));
-    let t = m.saturating_sub(k as u64);
-    let text = format!(in alloc;
-        "{{\"depth\":{depth},\"k\":{k},\"kind\":\"{kind}\",\"m\":{m},\"q\":{q},\"s\":{s},\"since\":{since},\"t\":{t},\"version\":{version}}}"
-    )?;
-    Ok(text.into_bytes())
+    let t = ask.m.saturating_sub(k as u64);
+    value_spelled(alloc, ask, k, t, since, version)
+}
+
+#[tactic(auto, unfolding(crate::specs::Spelled::value_spelled))]
+fn value_spelled(
+    alloc: Global,
+    ask: &Ask,
+    k: u8,
+    t: u64,
+    since: u32,
+    version: u32,
+) -> Result<Vec<u8>, AllocError>
+    ensures { IfOk result (λ text. text.items ≡ value_spelled ask.now k t since version) }
+{
+    let mut text = Vec::with_capacity(alloc, VALUE_ROOM)?;
+    push_labelled(&mut text, b"{\"depth\":", shown_depth(ask))?;
+    push_labelled(&mut text, b",\"k\":", k as u64)?;
+    push_asked(&mut text, ask)?;
+    push_labelled(&mut text, b",\"since\":", since as u64)?;
+    push_labelled(&mut text, b",\"t\":", t)?;
+    push_labelled(&mut text, b",\"version\":", version as u64)?;
+    text.push(b'}')?;
+    Ok(text)
+}
+
+// Adds what is asked for.
+#[tactic(auto, unfolding(crate::specs::Spelled::asked_spelled))]
+fn push_asked(text: &mut Vec<u8>, ask: &Ask) -> Result<(), AllocError>
+    ensures { OnOk result (text.new.items ≡ text.old.items ++ asked_spelled ask.now) }
+{
+    text.extend_from_slice(b",\"kind\":\"")?;
+    text.extend_from_slice(ask.kind.word().as_bytes())?;
+    push_labelled(text, b"\",\"m\":", ask.m)?;
+    push_labelled(text, b",\"q\":", ask.q)?;
+    push_labelled(text, b",\"s\":", ask.s)
 }
 
 // The depth of what is asked for.
@@ -44,7 +78,8 @@ fn shown_depth(ask: &Ask) -> u64
 pub(crate) fn version_body(alloc: Global, version: u32) -> Result<Vec<u8>, AllocError>
     ensures { IfOk result (λ body. body.items ≡ compact_text (version_data version)) }
 {
-    json!(in alloc; {"version": version})?.to_vec(alloc)
+    let text = format!(in alloc; "{{\"version\":{version}}}")?;
+    Ok(text.into_bytes())
 }
 
 /// The body for the least m.
