@@ -1,18 +1,20 @@
 -- The JSON data of nodes and of values.
-use Rattle.std.proofs.Common.{◌≡◌, ℕ, ◌+◌, ◌-◌, ◌<◌, List, [], ◌∷◌, ◌++◌, length, map, take, get_or, codes, decimal, refl, sym, ap, ◌∙◌, arith}
+use Rattle.std.proofs.Common.{◌≡◌, ℕ, ◌+◌, ◌-◌, ◌<◌, List, [], ◌∷◌, ◌++◌, length, map, take, get_or, codes, decimal, false, ◌||◌, refl, sym, ap, ap₂, ◌∙◌, arith}
 use Rattle.std.proofs.lemmas.List.{append_assoc, length-take-le, map-append, take_more}
 use Rattle.serde_json.specs.Data.{Data}
-use Rattle.serde_json.specs.View.{view}
-use Rattle.serde_json.specs.Written.{compact_text}
+use Rattle.serde_json.specs.View.{view, items_of}
+use Rattle.serde_json.specs.Written.{compact_text, has_float, items_have_float}
 use Rattle.serde_json.specs.declared.value.Value.{Value}
 use Rattle.serde_json.proofs.OnLiterals.{serde_json_on_literals}
 use Rattle.mt_cells.specs.declared.asks.Kind.{Kind}
 use Rattle.mt_cells.specs.declared.asks.Kind.TheVariants.{Net, Oa, Ooa, Seq}
 use Rattle.mt_cells.specs.declared.asks.Ask.{Ask}
 use Rattle.mt_cells.specs.Texts.{kind_text}
+use Rattle.mt_derive.specs.declared.nodes.Made.{Made}
+use Rattle.mt_derive.specs.declared.nodes.Made.TheVariants as made
 use Rattle.mt_derive.specs.declared.nodes.Node.{Node}
 use Rattle.mt_answer.specs.Spelled.{asked_spelled, value_spelled}
-use Rattle.mt_answer.specs.Bodies.{depth_of, value_data, node_data, nodes_data}
+use Rattle.mt_answer.specs.Bodies.{depth_of, value_data, parents_data, node_data, nodes_data, tree_data}
 
 pub no_nodes : (number : ℕ) → nodes_data number [] ≡ []
 unfolding nodes_data
@@ -34,6 +36,30 @@ node_step nodes place none values value l before e =
     map-append view values (value ∷ []) ∙ ap (λ z. z ++ view value ∷ []) before ∙ ap (λ z. nodes_data 1 (take place nodes) ++ z ∷ []) e
     ∙ ap (λ z. nodes_data 1 (take place nodes) ++ node_data z node ∷ []) (sym count)
     ∙ sym (one_node 1 (take place nodes) node) ∙ ap (nodes_data 1) (sym (take_more nodes place none l))
+
+-- ---- no number is a float
+
+parents_whole : (m : Made) → items_have_float (items_of (parents_data m)) ≡ false
+parents_whole made.Zero = refl
+parents_whole made.Constant = refl
+parents_whole made.Identity = refl
+parents_whole made.Parity = refl
+parents_whole made.Niederreiter = refl
+parents_whole (made.Import n) = refl
+parents_whole (made.One r p) = refl
+parents_whole (made.Two r p q) = refl
+
+nodes_whole : (number : ℕ) (nodes : List Node) → items_have_float (items_of (nodes_data number nodes)) ≡ false
+unfolding nodes_data
+nodes_whole number [] = refl
+nodes_whole number (node ∷ nodes) =
+    let one : has_float (node_data number node) ≡ false = ap (λ z. z || false) (parents_whole node.made) in
+    ap₂ (λ x y. x || y) one (nodes_whole (number + 1) nodes)
+
+pub tree_whole : (nodes : List Node) (version : ℕ) → has_float (tree_data nodes version) ≡ false
+tree_whole nodes version = ap (λ z. z || false) (nodes_whole 1 nodes)
+
+-- ---- values
 
 -- the same parts, one behind another
 joined : (x d y k z kind u m v q w s x' since y' t z' version end : List ℕ)
