@@ -193,7 +193,7 @@ fn answers_behind_an_import(rt: HostRuntime) -> Result<(), Fail> {
             Question::Tree(over_two(Kind::Ooa, 4, 7)),
             200,
             Media::Json,
-            b"{\"nodes\":[{\"cell\":\"ooa 2 4 7 4\",\"k\":3,\"node\":1,\"parents\":[],\"rule\":\"import/1\"}],\"version\":1}",
+            b"{\"nodes\":[{\"cell\":\"ooa 2 4 7 4\",\"k\":3,\"node\":1,\"parents\":[],\"rule\":\"import/1\"},{\"cell\":\"ooa 2 4 7 3\",\"k\":3,\"node\":2,\"parents\":[1],\"rule\":\"shallower\"},{\"cell\":\"ooa 2 4 7 2\",\"k\":3,\"node\":3,\"parents\":[2],\"rule\":\"shallower\"}],\"version\":1}",
         ),
         (
             Question::Matrix(over_two(Kind::Net, 4, 7)),
