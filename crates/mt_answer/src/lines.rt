@@ -125,11 +125,7 @@ fn push_parents(text: &mut Vec<u8>, made: Made) -> Result<(), AllocError>
 }
 
 /// Adds a label, and a number in decimal.
-pub(crate) fn push_labelled(
-    text: &mut Vec<u8>,
-    label: &[u8],
-    number: u64,
-) -> Result<(), AllocError>
+pub(crate) fn push_labelled(text: &mut Vec<u8>, label: &[u8], number: u64) -> Result<(), AllocError>
     ensures { OnOk result (text.new.items ≡ text.old.items ++ (label.now ++ decimal number)) }
 {
     let mut digits = Buffer::new();
