@@ -4,3 +4,4 @@ pub mod ValueLemmas
 pub mod LineLemmas
 pub mod FieldLemmas
 pub mod SheetLemmas
+pub mod BodyLemmas

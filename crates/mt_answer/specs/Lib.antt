@@ -1,7 +1,9 @@
 pub mod Sheets
 pub mod Facts
 pub mod Texts
+pub mod Bodies
 pub mod Answers
 pub mod Laws
 pub mod Places
 pub mod Fields
+pub mod Spelled

@@ -1,6 +1,6 @@
 //! Answers from a table.
 ghost use Rattle.std.specs.Prelude.{◌≡◌, IfOk};
-ghost use Rattle.mt_answer.specs.Answers.{HasText, IsTextFor};
+ghost use Rattle.mt_answer.specs.Answers.{HasText, IsTextFor, shown, IsReplyFor};
 ghost use Rattle.mt_answer.specs.Facts.{IsFact, IsFound};
 ghost use Rattle.mt_answer.specs.Texts.{text_of};
 ghost use Rattle.mt_cells.specs.Asks.{sizes_of, IsInside};
@@ -11,6 +11,7 @@ use crate::exports::export_lines;
 use crate::facts::{Fact, Facts};
 use crate::least::least_m;
 use crate::lines::{node_lines, value_line};
+use crate::replies::{Answer, found_answer, outside_answer};
 use crate::tables::table_lines;
 use mt_cells::Question;
 use mt_import::print_import;
@@ -108,5 +109,27 @@ fn written(alloc: Global, facts: Facts) -> Result<Vec<u8>, AllocError>
         Fact::Matrix(claim) => print_import(alloc, &claim),
         Fact::Sheet(text) => Ok(text),
         Fact::LeastM { .. } | Fact::Version => Ok(Vec::new(alloc)),
+    }
+}
+
+/// The answer to a question over HTTP: what [`find`] answers, with status 200, or the first number
+/// of the question that is outside the bounds, with status 404. It fails only for want of memory.
+///
+/// A value, a derivation, the least m and the number of events are JSON, compact and with keys in
+/// byte order. Matrices and comma-separated values are what [`text`](text) gives.
+///
+/// - A value is `{"depth":D,"k":K,"kind":"KIND","m":M,"q":Q,"s":S,"since":N,"t":T,"version":V}`.
+/// - A derivation is `{"nodes":[..],"version":V}`, with `{"cell":"CELL","k":K,"node":NUMBER,
+///   "parents":[..],"rule":"RULE"}` for each node, numbered from 1.
+/// - The least m is `{"k":K,"m":M,"q":Q,"s":S,"version":V}`, with `null` where there is none.
+/// - The number of events is `{"version":V}`.
+/// - What is outside is `{"error":"outside","name":"NAME","number":N}`.
+pub fn answer(alloc: Global, table: &Table, question: &Question) -> Result<Answer, AllocError>
+    ensures { IfOk result (λ answer. IsReplyFor table.now.bounds table.now.rules table.now.events
+        question.now (shown answer)) }
+{
+    match question.outside(table.bounds()) {
+        Some(outside) => outside_answer(alloc, outside),
+        None => found_answer(alloc, find(alloc, table, question)?),
     }
 }

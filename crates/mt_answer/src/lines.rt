@@ -1,8 +1,9 @@
 //! The lines of answers.
-ghost use Rattle.std.specs.Prelude.{◌≡◌, [], ◌∷◌, ◌++◌, codes, decimal, IfOk, OnOk};
+ghost use Rattle.std.specs.Prelude.{◌≡◌, [], ◌∷◌, ◌++◌, codes, decimal, string_bytes, IfOk, OnOk};
 ghost use Rattle.mt_cells.specs.Texts.{cell_text};
 ghost use Rattle.mt_answer.specs.Texts.{ask_text, value_text, made_text, parents_text, node_text, nodes_text, outside_line_text};
 
+use itoa::Buffer;
 use mt_cells::{Ask, Kind, Outside};
 use mt_derive::{Made, Node};
 use std::alloc::{AllocError, Global};
@@ -18,10 +19,10 @@ pub(crate) fn value_line(
     ensures { IfOk result (λ text. text.items ≡ value_text ask.now k since version) }
 {
     let mut text = ask_line(alloc, ask)?;
-    push_labelled(alloc, &mut text, b": k ", k as u64)?;
-    push_labelled(alloc, &mut text, b", t ", ask.m.saturating_sub(k as u64))?;
-    push_labelled(alloc, &mut text, b", since ", since as u64)?;
-    push_labelled(alloc, &mut text, b", version ", version as u64)?;
+    push_labelled(&mut text, b": k ", k as u64)?;
+    push_labelled(&mut text, b", t ", ask.m.saturating_sub(k as u64))?;
+    push_labelled(&mut text, b", since ", since as u64)?;
+    push_labelled(&mut text, b", version ", version as u64)?;
     text.push(b'\n')?;
     Ok(text)
 }
@@ -38,11 +39,11 @@ fn ask_line(alloc: Global, ask: &Ask) -> Result<Vec<u8>, AllocError>
     ensures { IfOk result (λ text. text.items ≡ ask_text ask.now) }
 {
     let mut text = Vec::from_slice(alloc, ask.kind.word().as_bytes())?;
-    push_labelled(alloc, &mut text, b" ", ask.q)?;
-    push_labelled(alloc, &mut text, b" ", ask.m)?;
-    push_labelled(alloc, &mut text, b" ", ask.s)?;
+    push_labelled(&mut text, b" ", ask.q)?;
+    push_labelled(&mut text, b" ", ask.m)?;
+    push_labelled(&mut text, b" ", ask.s)?;
     match ask.kind {
-        Kind::Ooa => push_labelled(alloc, &mut text, b" ", ask.depth)?,
+        Kind::Ooa => push_labelled(&mut text, b" ", ask.depth)?,
         Kind::Net | Kind::Oa | Kind::Seq => {}
     }
     Ok(text)
@@ -63,7 +64,7 @@ pub(crate) fn node_lines(alloc: Global, nodes: &[Node]) -> Result<Vec<u8>, Alloc
 fn push_node(alloc: Global, text: &mut Vec<u8>, number: u64, node: Node) -> Result<(), AllocError>
     ensures { OnOk result (text.new.items ≡ text.old.items ++ node_text number node) }
 {
-    push_labelled(alloc, text, b"", number)?;
+    push_labelled(text, b"", number)?;
     push_rule(alloc, text, node.made)?;
     push_conclusion(alloc, text, node)
 }
@@ -84,38 +85,35 @@ fn push_rule(alloc: Global, text: &mut Vec<u8>, made: Made) -> Result<(), AllocE
         ++ (32 ∷ made_text made ++ 32 ∷ parents_text made)) }
 {
     text.push(b' ')?;
-    push_made(alloc, text, made)?;
+    text.extend_from_slice(made_word(alloc, made)?.as_bytes())?;
     text.push(b' ')?;
-    push_parents(alloc, text, made)
+    push_parents(text, made)
 }
 
-// Adds the name of an axiom, an import or a rule.
-fn push_made(alloc: Global, text: &mut Vec<u8>, made: Made) -> Result<(), AllocError>
-    ensures { OnOk result (text.new.items ≡ text.old.items ++ made_text made) }
+/// The name of an axiom, an import or a rule.
+pub(crate) fn made_word(alloc: Global, made: Made) -> Result<String, AllocError>
+    ensures { IfOk result (λ word. string_bytes word ≡ made_text made) }
 {
     match made {
-        Made::Zero => text.extend_from_slice(b"zero"),
-        Made::Constant => text.extend_from_slice(b"constant"),
-        Made::Identity => text.extend_from_slice(b"identity"),
-        Made::Parity => text.extend_from_slice(b"parity"),
-        Made::Niederreiter => text.extend_from_slice(b"niederreiter"),
-        Made::Import(n) => push_labelled(alloc, text, b"import/", n as u64),
-        Made::One(rule, _) | Made::Two(rule, _, _) => {
-            let word = format!(in alloc; "{rule}")?;
-            text.extend_from_slice(word.as_bytes())
-        }
+        Made::Zero => String::from_str(alloc, "zero"),
+        Made::Constant => String::from_str(alloc, "constant"),
+        Made::Identity => String::from_str(alloc, "identity"),
+        Made::Parity => String::from_str(alloc, "parity"),
+        Made::Niederreiter => String::from_str(alloc, "niederreiter"),
+        Made::Import(n) => format!(in alloc; "import/{n}"),
+        Made::One(rule, _) | Made::Two(rule, _, _) => format!(in alloc; "{rule}"),
     }
 }
 
 // Adds the numbers of the parents.
-fn push_parents(alloc: Global, text: &mut Vec<u8>, made: Made) -> Result<(), AllocError>
+fn push_parents(text: &mut Vec<u8>, made: Made) -> Result<(), AllocError>
     ensures { OnOk result (text.new.items ≡ text.old.items ++ parents_text made) }
 {
     match made {
-        Made::One(_, parent) => push_labelled(alloc, text, b"", parent as u64 + 1),
+        Made::One(_, parent) => push_labelled(text, b"", parent as u64 + 1),
         Made::Two(_, first, second) => {
-            push_labelled(alloc, text, b"", first as u64 + 1)?;
-            push_labelled(alloc, text, b",", second as u64 + 1)
+            push_labelled(text, b"", first as u64 + 1)?;
+            push_labelled(text, b",", second as u64 + 1)
         }
         Made::Zero
         | Made::Constant
@@ -126,17 +124,11 @@ fn push_parents(alloc: Global, text: &mut Vec<u8>, made: Made) -> Result<(), All
     }
 }
 
-// Adds a label, and a number in decimal.
-fn push_labelled(
-    alloc: Global,
-    text: &mut Vec<u8>,
-    label: &[u8],
-    number: u64,
-) -> Result<(), AllocError>
+/// Adds a label, and a number in decimal.
+pub(crate) fn push_labelled(text: &mut Vec<u8>, label: &[u8], number: u64) -> Result<(), AllocError>
     ensures { OnOk result (text.new.items ≡ text.old.items ++ (label.now ++ decimal number)) }
 {
-    let digits = format!(in alloc; "{number}")?;
+    let mut digits = Buffer::new();
     text.extend_from_slice(label)?;
-    text.extend_from_slice(digits.as_bytes())?;
-    Ok(())
+    text.extend_from_slice(digits.format(number).as_bytes())
 }
