@@ -7,9 +7,6 @@ use Rattle.std.proofs.lemmas.List.Elements.{All-nil, All-cons, All-append}
 use Rattle.std.proofs.lemmas.List.Folds.{list_any-append}
 use Rattle.std.specs.List.{join_with_byte}
 use Rattle.csv.specs.Writing.{row_text, row_body, field_text, fields_text, is_blank, needs_quotes, needs_byte, default_writer}
-use Rattle.mt_cells.specs.declared.asks.Kind.{Kind}
-use Rattle.mt_cells.specs.declared.asks.Kind.TheVariants.{Net, Oa, Ooa, Seq}
-use Rattle.mt_cells.specs.Texts.{kind_text}
 use Rattle.mt_answer.specs.Fields.{IsPlain, ArePlain}
 use Rattle.mt_answer.specs.Sheets.{line_text}
 
