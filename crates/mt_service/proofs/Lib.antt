@@ -1,3 +1,4 @@
 mod GateLemmas
 mod ListLemmas
 mod OneLemmas
+mod OpenLemmas
