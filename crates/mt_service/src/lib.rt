@@ -8,6 +8,8 @@ pub mod laws;
 mod lines;
 mod opening;
 mod outcomes;
+#[cfg(test)]
+mod record_tests;
 mod service;
 mod telling;
 #[cfg(test)]
