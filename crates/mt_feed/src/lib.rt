@@ -28,20 +28,20 @@ pub struct Change {
 }
 
 /// Who is told of changes. `told` is the text of the lines that it was told, where the object tells
-/// it; `faults` counts its failures. No call takes memory.
+/// it; `failures` counts its failures. No call takes memory.
 pub trait Feed: Drop {
     ghost told: { Self → Option (List ℕ) };
 
-    ghost faults: { Self → ℕ };
+    ghost failures: { Self → ℕ };
 
     /// Appends the line of the change. After `Failed` a prefix of it was appended.
     fn tell(&mut self, change: &Change) -> Result<(), Failed>
         ensures line { Appends (told self.old) (told self.new) result (change_line change.now) }
-        ensures cause { HasCause (faults self.old) (faults self.new) result };
+        ensures cause { HasCause (failures self.old) (failures self.new) result };
 
     /// Whether it has ever failed.
     fn failed(&self) -> bool
-        ensures { IsTrue result ↔ (faults self.now ≢ 0) };
+        ensures { IsTrue result ↔ (failures self.now ≢ 0) };
 
     /// The changes that it keeps, for tests. Which they are is left to each feed.
     fn kept(&self) -> &[Change];

@@ -31,7 +31,7 @@ impl<W> LinesFeed<W> {
 impl<W: Sink + Drop> Feed for LinesFeed<W> {
     ghost told = { λ f. W.written (feed_sink f) };
 
-    ghost faults = { feed_faults };
+    ghost failures = { feed_faults };
 
     /// Writes the line at once. It fails where the sink fails.
     fn tell(&mut self, change: &Change) -> Result<(), Failed>

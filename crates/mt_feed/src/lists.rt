@@ -61,7 +61,7 @@ impl ListFeed {
 impl Feed for ListFeed {
     ghost told = { λ f. Some (change_lines f.kept) };
 
-    ghost faults = { λ f. f.faults };
+    ghost failures = { λ f. f.faults };
 
     /// Keeps the change. It fails, and keeps nothing, at a call that is told to fail and where the
     /// room is full.

@@ -9,7 +9,7 @@ use mt_io::Failed;
 
 /// Tells the feed the change, where it has not failed.
 pub fn tell_unless_failed(feed: &mut Box<dyn Feed + Send>, change: &Change)
-    ensures { Fares (λ b. told b) (λ b. faults b) (change_line change.now) feed.old feed.new }
+    ensures { Fares (λ b. told b) (λ b. failures b) (change_line change.now) feed.old feed.new }
 {
     if has_failed(feed) {
         return;
@@ -20,8 +20,8 @@ pub fn tell_unless_failed(feed: &mut Box<dyn Feed + Send>, change: &Change)
 
 // Whether the feed has failed.
 fn has_failed(feed: &Box<dyn Feed + Send>) -> bool
-    ensures failed { IsTrue result → faults feed.now ≢ 0 }
-    ensures sound { result ≡ false → faults feed.now ≡ 0 }
+    ensures failed { IsTrue result → failures feed.now ≢ 0 }
+    ensures sound { result ≡ false → failures feed.now ≡ 0 }
 {
     feed.failed()
 }
@@ -29,7 +29,7 @@ fn has_failed(feed: &Box<dyn Feed + Send>) -> bool
 // Tells the feed the change.
 fn tell_one(feed: &mut Box<dyn Feed + Send>, change: &Change) -> Result<(), Failed>
     ensures line { Appends (told feed.old) (told feed.new) result (change_line change.now) }
-    ensures fault { OnErr result (faults feed.new ≢ 0) }
+    ensures fault { OnErr result (failures feed.new ≢ 0) }
 {
     feed.tell(change)
 }

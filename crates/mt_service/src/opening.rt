@@ -1,5 +1,5 @@
 //! The list of events that a keeper's records stand for.
-ghost use Rattle.std.specs.Prelude.{◌≡◌, ◌≤◌, ◌+◌, ℕ, List, [], ◌∷◌, ◌++◌, length, Ok, IfOk, IfErr, MatchResult};
+ghost use Rattle.std.specs.Prelude.{◌≡◌, ◌≢◌, ◌≤◌, ◌<◌, ℕ, List, [], length, Ok, IfOk, IfErr};
 ghost use Rattle.mt_io.specs.Faults.{Rose};
 ghost use Rattle.mt_derive.specs.declared.events.Event.{Event};
 ghost use Rattle.mt_derive.specs.declared.imports.TheConstants.{MOST_EVENTS};

@@ -86,7 +86,7 @@ impl Service {
         ensures later { K.faults keeper.old ≤ K.faults keeper.new }
         ensures fault { result ≡ Outcome.KeeperFault
             → Rose (K.faults keeper.old) (K.faults keeper.new) }
-        ensures told { AreTold self.old.bounds self.old.rules (λ b. told b) (λ b. faults b)
+        ensures told { AreTold self.old.bounds self.old.rules (λ b. told b) (λ b. failures b)
             self.old.events self.new.events feeds.old.items feeds.new.items }
     {
         match self.examine(alloc, text) {
@@ -220,7 +220,7 @@ impl Service {
             → Rose (K.faults keeper.old) (K.faults keeper.new) }
         ensures ends { Ends self.old.bounds self.old.rules self.old.events named.now.event
             named.now.name result self.new.events }
-        ensures told { AreTold self.old.bounds self.old.rules (λ b. told b) (λ b. faults b)
+        ensures told { AreTold self.old.bounds self.old.rules (λ b. told b) (λ b. failures b)
             self.old.events self.new.events feeds.old.items feeds.new.items }
     {
         match put(alloc, keeper, self.table.version() + 1, named) {

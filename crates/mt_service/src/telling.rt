@@ -14,7 +14,7 @@ use mt_table::Table;
 /// Tells each feed that has not failed what the last event changed, in the order of cells.
 pub(crate) fn tell_all(feeds: &mut Vec<Box<dyn Feed + Send>>, table: &Table)
     ensures { (E : List Event) (e : Event) → table.now.events ≡ E ++ e ∷ []
-        → AreTold table.now.bounds table.now.rules (λ b. told b) (λ b. faults b)
+        → AreTold table.now.bounds table.now.rules (λ b. told b) (λ b. failures b)
         E table.now.events feeds.old.items feeds.new.items }
 {
     for i in 0..feeds.len() {
@@ -26,7 +26,7 @@ pub(crate) fn tell_all(feeds: &mut Vec<Box<dyn Feed + Send>>, table: &Table)
 fn tell_feed(feed: &mut Box<dyn Feed + Send>, table: &Table)
     ensures { (E : List Event) (e : Event) → table.now.events ≡ E ++ e ∷ []
         → (changes : List Change) × AreChanges table.now.bounds table.now.rules E table.now.events changes
-        × Fares (λ b. told b) (λ b. faults b) (change_lines changes) feed.old feed.new }
+        × Fares (λ b. told b) (λ b. failures b) (change_lines changes) feed.old feed.new }
 {
     for n in 0..table.bounds().cells() {
         tell_cell(feed, table, Cell::at(table.bounds(), n));
