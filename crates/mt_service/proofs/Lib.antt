@@ -1,2 +1,6 @@
+mod AcceptLemmas
 mod GateLemmas
+mod KeptLemmas
+mod LengthLemmas
 mod ListLemmas
+mod TellLemmas
