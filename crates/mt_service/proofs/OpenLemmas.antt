@@ -2,16 +2,9 @@
 use Rattle.std.proofs.Common.{◌≡◌, ℕ, ◌+◌, ◌-◌, ◌<◌, ◌≤◌, List, [], ◌∷◌, ◌++◌, length, take, get_or, slice_get, Option, None, Some, Result, Ok, Err, refl, sym, subst, arith, append-nil, append_assoc}
 use Rattle.std.proofs.lemmas.List.{take_more, take_all}
 use Rattle.std.proofs.lemmas.Option.{get_or_from_slice_get}
-use Rattle.mt_system.specs.declared.claims.Form.{Form}
-use Rattle.mt_system.specs.declared.claims.Form.TheVariants as form
-use Rattle.mt_system.specs.Rows.{Matrices}
 use Rattle.mt_cells.specs.declared.bounds.Bounds.{Bounds}
-use Rattle.mt_cells.specs.Cells.{InBounds}
 use Rattle.mt_derive.specs.declared.events.Event.{Event}
-use Rattle.mt_derive.specs.declared.events.Event.TheVariants.{Import, Withdraw}
 use Rattle.mt_derive.specs.declared.imports.TheConstants.{MOST_EVENTS}
-use Rattle.mt_derive.specs.Events.{Follows}
-use Rattle.mt_derive.specs.Imports.{cell_by}
 use Rattle.mt_keeper.specs.declared.refusals.KeeperRefused.{KeeperRefused}
 use Rattle.mt_keeper.specs.Keeping.{Loads}
 use Rattle.mt_service.specs.declared.outcomes.Outcome.{Outcome}
@@ -24,24 +17,6 @@ use Rattle.mt_service.specs.Steps.{IsAccepted}
 use Rattle.mt_service.specs.Records.{AreAccepted}
 use Rattle.mt_service.specs.Opening.{IsBad, IsFirstBad}
 use Rattle.mt_service.specs.Filling.{Adopts, Fills, bad_of, refused_of}
-
--- ---- an event more
-
-inside : (b : Bounds) (f : Form) (a : Matrices) → 1 ≤ a.columns → a.columns ≤ b.m_max → 1 ≤ a.coordinates → a.coordinates ≤ b.s_max → 1 ≤ a.depth → a.depth ≤ a.columns
-    → InBounds b (cell_by f a)
-inside b form.Ooa a m n s t d e = (m, n, s, t, d, e)
-inside b form.Net a m n s t d e = (m, n, s, t, d, e)
-inside b form.Seq a m n s t d e = (m, n, s, t)
-
--- the event of an accepted text may come next
-pub accepted_follows : (b : Bounds) (E : List Event) (text : List ℕ) (e : Event) → IsAccepted b E text e → Follows b E e
-accepted_follows b E text (Import c) (new, holds) =
-    let header = new.reads.0.text_of.begins.header.header in
-    ( new.room
-    , inside b c.form c.system header.columns_from new.reads.0.columns header.coordinates_from new.reads.0.coordinates header.depth_from header.depth_to
-    , new.named
-    )
-accepted_follows b E text (Withdraw n) (name, to, live) = live
 
 -- why no event comes of a text
 pub adopts_not : (T : Type 0) (b : Bounds) (E : List Event) (text : List ℕ) (M : List Event) (o : Outcome) → IsDeclinedOrMemory b E text o → Adopts {T = T} b E text M (Err (bad_of o))

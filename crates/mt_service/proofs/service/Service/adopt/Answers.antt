@@ -1,4 +1,4 @@
-use Rattle.mt_service.proofs.OpenLemmas.{accepted_follows, adopts_not}
+use Rattle.mt_service.proofs.AcceptLemmas.{accepted_follows}
 use Rattle.mt_service.proofs.service.Service.adopt.Goals as goal
 
 pub append-requires : goal.append-requires

@@ -1,0 +1,5 @@
+use Rattle.mt_service.proofs.AcceptLemmas.{compared}
+use Rattle.mt_service.proofs.service.Service.examine_import.Goals as goal
+
+pub returns-in-Ok-Ok : goal.returns-in-Ok-Ok
+returns-in-Ok-Ok c = compared c.args.self.now.bounds c.args.self.now.events c.args.text.now _ c.in-Ok-Ok.ensures c.compare.result c.compare.ensures
