@@ -1,38 +1,19 @@
 -- Records that are read in their order.
 use Rattle.std.proofs.Common.{◌≡◌, ℕ, ◌+◌, ◌-◌, ◌<◌, ◌≤◌, List, [], ◌∷◌, ◌++◌, length, take, get_or, slice_get, Option, None, Some, Result, Ok, Err, refl, sym, subst, arith, append-nil, append_assoc}
-use Rattle.std.proofs.lemmas.List.{take_more, take_all}
+use Rattle.std.proofs.lemmas.List.{take_more}
 use Rattle.std.proofs.lemmas.Option.{get_or_from_slice_get}
 use Rattle.mt_cells.specs.declared.bounds.Bounds.{Bounds}
 use Rattle.mt_derive.specs.declared.events.Event.{Event}
 use Rattle.mt_derive.specs.declared.imports.TheConstants.{MOST_EVENTS}
 use Rattle.mt_keeper.specs.declared.refusals.KeeperRefused.{KeeperRefused}
 use Rattle.mt_keeper.specs.Keeping.{Loads}
-use Rattle.mt_service.specs.declared.outcomes.Outcome.{Outcome}
-use Rattle.mt_service.specs.declared.outcomes.Outcome.TheVariants as outcome
 use Rattle.mt_service.specs.declared.opening.Why.{Why}
 use Rattle.mt_service.specs.declared.opening.Bad.{Bad}
 use Rattle.mt_service.specs.declared.opening.Bad.TheVariants as bad
-use Rattle.mt_service.specs.Accepting.{IsDeclinedOrMemory}
 use Rattle.mt_service.specs.Steps.{IsAccepted}
 use Rattle.mt_service.specs.Records.{AreAccepted}
 use Rattle.mt_service.specs.Opening.{IsBad, IsFirstBad}
-use Rattle.mt_service.specs.Filling.{Adopts, Fills, bad_of, refused_of}
-
--- why no event comes of a text
-pub adopts_not : (T : Type 0) (b : Bounds) (E : List Event) (text : List ℕ) (M : List Event) (o : Outcome) → IsDeclinedOrMemory b E text o → Adopts {T = T} b E text M (Err (bad_of o))
-adopts_not T b E text M (outcome.Form refused) d = (outcome.Form refused, d, refl)
-adopts_not T b E text M (outcome.NoImport name) d = (outcome.NoImport name, d, refl)
-adopts_not T b E text M (outcome.AlreadyWithdrawn n name) d = (outcome.AlreadyWithdrawn n name, d, refl)
-adopts_not T b E text M (outcome.Range name number limit) d = (outcome.Range name number limit, d, refl)
-adopts_not T b E text M (outcome.TooManyChoices count) d = (outcome.TooManyChoices count, d, refl)
-adopts_not T b E text M (outcome.Already n name) d = (outcome.Already n name, d, refl)
-adopts_not T b E text M (outcome.IsWithdrawn n name) d = (outcome.IsWithdrawn n name, d, refl)
-adopts_not T b E text M (outcome.NameTaken n name) d = (outcome.NameTaken n name, d, refl)
-adopts_not T b E text M outcome.Full d = (outcome.Full, d, refl)
-adopts_not T b E text M (outcome.Dependent f part choice coefficients) d = (outcome.Dependent f part choice coefficients, d, refl)
-adopts_not T b E text M o d = tt
-
--- ---- the records before
+use Rattle.mt_service.specs.Filling.{Adopts, Fills, refused_of}
 
 accepted_push : (b : Bounds) (A : List Event) (texts : List (List ℕ)) (M : List Event) (text : List ℕ) (e : Event) → AreAccepted b A texts M → IsAccepted b (A ++ M) text e
     → AreAccepted b A (texts ++ text ∷ []) (M ++ e ∷ [])
@@ -51,9 +32,6 @@ pub accepted_next : (T : Type 0) (b : Bounds) (records : List (List ℕ)) (L M :
 accepted_next T b records L M i text x l g read (e, accepted, is) =
     let here : text ≡ get_or records i [] = sym (get_or_from_slice_get records i text [] (subst (λ (j : ℕ). slice_get records j ≡ Some text) (less i) read)) in
     rw (take_more records i [] l, is) (accepted_push b [] (take i records) L (get_or records i []) e g (subst (λ (t : List ℕ). IsAccepted b L t e) here accepted))
-
-pub accepted_whole : (b : Bounds) (records : List (List ℕ)) (L : List Event) (i : ℕ) → length records ≤ i → AreAccepted b [] (take i records) L → AreAccepted b [] records L
-accepted_whole b records L i l g = rw (take_all i records l) at g
 
 -- the next record is the first bad one, or memory is wanted
 pub fills_not : (T U : Type 0) (b : Bounds) (records : List (List ℕ)) (L M : List Event) (i : ℕ) (text : List ℕ) (e : Bad) → length records ≤ MOST_EVENTS → i < length records
