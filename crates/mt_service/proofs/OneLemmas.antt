@@ -1,5 +1,5 @@
 -- A text comes to one outcome over a list.
-use Rattle.std.proofs.Common.{◌≡◌, ◌≢◌, ℕ, zero, suc, ◌-◌, ◌<◌, ◌≤◌, ◌⊎◌, inl, inr, List, [], ◌∷◌, ◌++◌, length, take, get_or, refl, sym, ap, ◌∙◌, subst, arith}
+use Rattle.std.proofs.Common.{◌≡◌, ℕ, zero, suc, ◌-◌, ◌<◌, ◌≤◌, ◌⊎◌, inl, inr, List, [], ◌∷◌, ◌++◌, length, take, get_or, refl, sym, ap, ◌∙◌, subst, arith}
 use Rattle.std.proofs.lemmas.Bool.{cases_lt}
 use Rattle.mt_linear.specs.declared.order.Order.{Order}
 use Rattle.mt_linear.specs.Vectors.{Digits}
@@ -17,7 +17,7 @@ use Rattle.mt_cells.specs.declared.rules.RuleSet.{RuleSet}
 use Rattle.mt_cells.proofs.CellLemmas.{order_same}
 use Rattle.mt_import.specs.declared.headers.Header.{Header}
 use Rattle.mt_import.specs.declared.refusals.FormRefused.{FormRefused}
-use Rattle.mt_import.specs.Canonical.{header_of, IsTextOf}
+use Rattle.mt_import.specs.Canonical.{header_of}
 use Rattle.mt_import.specs.Events.{IsSomeImport, IsEventRefusal}
 use Rattle.mt_import.specs.Laws.{HasOneImport}
 use Rattle.mt_import.specs.EventLaws.{HasOneWithdrawal, HasOneKind, IsNotRefusedEvent}
@@ -33,7 +33,7 @@ use Rattle.mt_service.specs.declared.gate.TheConstants.{MOST_CHOICES}
 use Rattle.mt_service.specs.declared.outcomes.Outcome.{Outcome}
 use Rattle.mt_service.specs.declared.outcomes.Outcome.TheVariants as outcome
 use Rattle.mt_service.specs.Gate.{choices, Reads, IsOverLimit, IsTextWithin}
-use Rattle.mt_service.specs.Steps.{IsNew, IsKnown, IsToWithdraw, IsAccepted, IsDeclined, IsStep}
+use Rattle.mt_service.specs.Steps.{IsKnown, IsAccepted, IsStep}
 use Rattle.mt_service.specs.Records.{AreAccepted}
 use Rattle.mt_service.specs.Laws.{place_of}
 

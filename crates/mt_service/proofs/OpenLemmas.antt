@@ -1,5 +1,5 @@
 -- Records that are read in their order.
-use Rattle.std.proofs.Common.{◌≡◌, ℕ, ◌+◌, ◌-◌, ◌<◌, ◌≤◌, List, [], ◌∷◌, ◌++◌, length, take, get_or, slice_get, Option, None, Some, Result, Ok, Err, refl, sym, subst, arith, append-nil, append_assoc}
+use Rattle.std.proofs.Common.{◌≡◌, ℕ, ◌+◌, ◌-◌, ◌<◌, ◌≤◌, List, [], ◌∷◌, ◌++◌, length, take, get_or, slice_get, Option, None, Some, Ok, Err, refl, sym, subst, arith, append-nil, append_assoc}
 use Rattle.std.proofs.lemmas.List.{take_more}
 use Rattle.std.proofs.lemmas.Option.{get_or_from_slice_get}
 use Rattle.mt_cells.specs.declared.bounds.Bounds.{Bounds}
@@ -7,12 +7,11 @@ use Rattle.mt_derive.specs.declared.events.Event.{Event}
 use Rattle.mt_derive.specs.declared.imports.TheConstants.{MOST_EVENTS}
 use Rattle.mt_keeper.specs.declared.refusals.KeeperRefused.{KeeperRefused}
 use Rattle.mt_keeper.specs.Keeping.{Loads}
-use Rattle.mt_service.specs.declared.opening.Why.{Why}
 use Rattle.mt_service.specs.declared.opening.Bad.{Bad}
 use Rattle.mt_service.specs.declared.opening.Bad.TheVariants as bad
 use Rattle.mt_service.specs.Steps.{IsAccepted}
 use Rattle.mt_service.specs.Records.{AreAccepted}
-use Rattle.mt_service.specs.Opening.{IsBad, IsFirstBad}
+use Rattle.mt_service.specs.Opening.{IsBad}
 use Rattle.mt_service.specs.Filling.{Adopts, Fills, refused_of}
 
 accepted_push : (b : Bounds) (A : List Event) (texts : List (List ℕ)) (M : List Event) (text : List ℕ) (e : Event) → AreAccepted b A texts M → IsAccepted b (A ++ M) text e

@@ -1,4 +1,4 @@
-use Rattle.std.proofs.Common.{◌≡◌, ◌<◌, ◌∙◌, [], length, Err, arith, subst}
+use Rattle.std.proofs.Common.{◌<◌, ◌∙◌, length, Err, arith, subst}
 use Rattle.mt_service.specs.Filling.{Adopts}
 use Rattle.mt_service.proofs.OpenLemmas.{accepted_next, fills_not}
 use Rattle.mt_service.proofs.opening.fill.Goals as goal
