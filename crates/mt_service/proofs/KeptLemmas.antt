@@ -1,13 +1,12 @@
 -- The records of a keeper and the events that they stand for.
 use Rattle.std.proofs.Common.{◌≡◌, ℕ, zero, suc, ◌+◌, ◌-◌, ◌≤◌, List, [], ◌∷◌, ◌++◌, length, refl, sym, ap, ◌∙◌, subst, arith, append-nil, append_assoc, length-append}
-use Rattle.std.specs.Prelude.{Option, None, Some, Result, Ok, Err, get_or, map}
+use Rattle.std.specs.Prelude.{Option, None, Some, Ok, Err, get_or, map}
 use Rattle.mt_io.specs.Told.{WhereTold}
 use Rattle.mt_system.specs.Statements.{Statement}
 use Rattle.mt_cells.specs.declared.bounds.Bounds.{Bounds}
 use Rattle.mt_derive.specs.declared.events.Event.{Event}
 use Rattle.mt_derive.specs.declared.events.Event.TheVariants.{Import, Withdraw}
-use Rattle.mt_derive.specs.declared.imports.TheConstants.{MOST_EVENTS}
-use Rattle.mt_derive.specs.Events.{imports_of, Follows, AllFollow}
+use Rattle.mt_derive.specs.Events.{imports_of, AllFollow}
 use Rattle.mt_derive.specs.Places.{IsAt}
 use Rattle.mt_derive.proofs.EventLemmas.{imports_withdraw}
 use Rattle.mt_import.specs.Canonical.{canonical_text}
