@@ -77,8 +77,8 @@ text_named E text (Import c) name named = refl
 text_named E text (Withdraw n) name named =
     let place = named.named.place in
     let here : name_of (E ++ Withdraw n ∷ []) n ≡ name =
-        ap (λ (L : List Statement). get_or (map (λ (d : Statement). d.name) L) (n - 1) []) (imports_withdraw E n)
-        ∙ name_at (imports_of E) (n - 1) named.named.claim place.1 ∙ named.named.named in
+    ap (λ (L : List Statement). get_or (map (λ (d : Statement). d.name) L) (n - 1) []) (imports_withdraw E n)
+    ∙ name_at (imports_of E) (n - 1) named.named.claim place.1 ∙ named.named.named in
     ap withdraw_text here
 
 -- the canonical text is accepted as the same event
@@ -87,8 +87,7 @@ text_accepted b E text (Import c) name (new, holds) named reads =
     let within = new.reads.0 in
     let begins = within.text_of.begins in
     let short : length (canonical_text c) ≤ 65536 =
-        text_short c begins.header.header (note_short within.text_of.source c.note _ begins.source_is) (omega (arith, within.columns, b.m_high)) (omega (arith, within.coordinates, b.s_high)) in
-    (
+    text_short c begins.header.header (note_short within.text_of.source c.note _ begins.source_is) (omega (arith, within.columns, b.m_high)) (omega (arith, within.coordinates, b.s_high)) in (
       record {
         reads = (record { text_of = reads short; columns = within.columns; coordinates = within.coordinates }, new.reads.1);
         named = new.named;
