@@ -11,6 +11,8 @@ mod outcomes;
 mod service;
 mod telling;
 #[cfg(test)]
+mod step_tests;
+#[cfg(test)]
 mod tests;
 
 pub use checks::check_text;
