@@ -1,13 +1,12 @@
 -- The records of a keeper and the events that they stand for.
 use Rattle.std.proofs.Common.{◌≡◌, ℕ, zero, suc, ◌+◌, ◌-◌, ◌≤◌, List, [], ◌∷◌, ◌++◌, length, refl, sym, ap, ◌∙◌, subst, arith, append-nil, append_assoc, length-append}
-use Rattle.std.specs.Prelude.{Option, None, Some, Result, Ok, Err, get_or, map}
+use Rattle.std.specs.Prelude.{Option, None, Some, Ok, Err, get_or, map}
 use Rattle.mt_io.specs.Told.{WhereTold}
 use Rattle.mt_system.specs.Statements.{Statement}
 use Rattle.mt_cells.specs.declared.bounds.Bounds.{Bounds}
 use Rattle.mt_derive.specs.declared.events.Event.{Event}
 use Rattle.mt_derive.specs.declared.events.Event.TheVariants.{Import, Withdraw}
-use Rattle.mt_derive.specs.declared.imports.TheConstants.{MOST_EVENTS}
-use Rattle.mt_derive.specs.Events.{imports_of, Follows, AllFollow}
+use Rattle.mt_derive.specs.Events.{imports_of, AllFollow}
 use Rattle.mt_derive.specs.Places.{IsAt}
 use Rattle.mt_derive.proofs.EventLemmas.{imports_withdraw}
 use Rattle.mt_import.specs.Canonical.{canonical_text}
@@ -78,8 +77,8 @@ text_named E text (Import c) name named = refl
 text_named E text (Withdraw n) name named =
     let place = named.named.place in
     let here : name_of (E ++ Withdraw n ∷ []) n ≡ name =
-        ap (λ (L : List Statement). get_or (map (λ (d : Statement). d.name) L) (n - 1) []) (imports_withdraw E n)
-        ∙ name_at (imports_of E) (n - 1) named.named.claim place.1 ∙ named.named.named in
+    ap (λ (L : List Statement). get_or (map (λ (d : Statement). d.name) L) (n - 1) []) (imports_withdraw E n)
+    ∙ name_at (imports_of E) (n - 1) named.named.claim place.1 ∙ named.named.named in
     ap withdraw_text here
 
 -- the canonical text is accepted as the same event
@@ -88,8 +87,7 @@ text_accepted b E text (Import c) name (new, holds) named reads =
     let within = new.reads.0 in
     let begins = within.text_of.begins in
     let short : length (canonical_text c) ≤ 65536 =
-        text_short c begins.header.header (note_short within.text_of.source c.note _ begins.source_is) (omega (arith, within.columns, b.m_high)) (omega (arith, within.coordinates, b.s_high)) in
-    (
+    text_short c begins.header.header (note_short within.text_of.source c.note _ begins.source_is) (omega (arith, within.columns, b.m_high)) (omega (arith, within.coordinates, b.s_high)) in (
       record {
         reads = (record { text_of = reads short; columns = within.columns; coordinates = within.coordinates }, new.reads.1);
         named = new.named;

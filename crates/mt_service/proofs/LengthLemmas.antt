@@ -1,6 +1,6 @@
 -- Canonical texts within bounds are short.
-use Rattle.std.proofs.Common.{◌≡◌, ℕ, zero, suc, ◌+◌, ◌-◌, ◌*◌, ◌<◌, ◌≤◌, List, [], ◌∷◌, ◌++◌, length, map, take, drop, refl, sym, ap, ◌∙◌, arith, le_trans, append_assoc, length-append, length-take}
-use Rattle.std.specs.Prelude.{decimal, flat_map, codes, All, min}
+use Rattle.std.proofs.Common.{◌≡◌, ℕ, zero, suc, ◌+◌, ◌*◌, ◌<◌, ◌≤◌, List, [], ◌∷◌, ◌++◌, length, map, take, drop, refl, sym, ap, ◌∙◌, arith, append_assoc, length-append, length-take}
+use Rattle.std.specs.Prelude.{decimal, flat_map}
 use Rattle.std.specs.List.{join_with_byte, AllByRecursion}
 use Rattle.std.proofs.lemmas.List.{length-map}
 use Rattle.std.proofs.lemmas.List.Elements.{recursion_from_All}
@@ -13,7 +13,7 @@ use Rattle.mt_system.specs.Forms.{form_word}
 use Rattle.mt_system.specs.Statements.{Statement}
 use Rattle.mt_import.specs.declared.headers.Header.{Header}
 use Rattle.mt_import.specs.Headers.{numbers_by, header_words, IsHeader}
-use Rattle.mt_import.specs.Sources.{IsSource, IsSourceLine}
+use Rattle.mt_import.specs.Sources.{IsSource}
 use Rattle.mt_import.specs.Canonical.{header_of, source_text, rows_text, canonical_text}
 use Rattle.mt_import.specs.HeaderParts.{count_of, AreNumbers}
 use Rattle.mt_import.proofs.HeaderLemmas.{numbers_are}

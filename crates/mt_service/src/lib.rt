@@ -13,6 +13,8 @@ mod record_tests;
 mod service;
 mod telling;
 #[cfg(test)]
+mod step_tests;
+#[cfg(test)]
 mod tests;
 
 pub use checks::check_text;

@@ -149,11 +149,13 @@ impl Service {
                 event: Event::Import(checked),
                 name,
             }),
-            Ok(Tested::Dependent {
-                part,
-                choice,
-                coefficients,
-            }) => Err(Outcome::Dependent {
+            Ok(
+                Tested::Dependent {
+                    part,
+                    choice,
+                    coefficients,
+                },
+            ) => Err(Outcome::Dependent {
                 form,
                 part,
                 choice,

@@ -1,4 +1,4 @@
-use Rattle.std.proofs.Common.{arith, ◌-◌, ap, length}
+use Rattle.std.proofs.Common.{arith, ◌-◌}
 use Rattle.mt_derive.specs.Events.{imports_of}
 use Rattle.mt_derive.proofs.PlaceLemmas.{place_below}
 use Rattle.mt_service.proofs.service.Service.known.Goals as goal
