@@ -1,14 +1,20 @@
 -- Internal: the parts of a step.
-use Rattle.std.specs.Prelude.{◌≡◌, ℕ, ◌<◌, ◌≤◌, List, length, Result, Ok, Err}
+use Rattle.std.specs.Prelude.{◌≡◌, ℕ, ◌<◌, ◌≤◌, ◌⊎◌, List, length, Option, Result, Ok, Err}
 use Rattle.mt_system.specs.Statements.{Statement}
 use Rattle.mt_strength.specs.Statements.{Holds}
 use Rattle.mt_cells.specs.declared.bounds.Bounds.{Bounds}
-use Rattle.mt_import.specs.Canonical.{canonical_text}
-use Rattle.mt_import.specs.Withdrawals.{withdraw_text}
+use Rattle.mt_cells.specs.declared.cells.Cell.{Cell}
+use Rattle.mt_import.specs.declared.import_text.TheConstants.{MOST_BYTES}
+use Rattle.mt_import.specs.Canonical.{canonical_text, IsTextOf}
+use Rattle.mt_import.specs.Withdrawals.{IsWithdrawal, withdraw_text}
 use Rattle.mt_derive.specs.declared.events.Event.{Event}
 use Rattle.mt_derive.specs.declared.events.Event.TheVariants.{Import, Withdraw}
 use Rattle.mt_derive.specs.declared.imports.TheConstants.{MOST_IMPORTS}
-use Rattle.mt_derive.specs.Events.{imports_of, IsLive}
+use Rattle.mt_derive.specs.Events.{imports_of, entries_of, IsLive}
+use Rattle.mt_derive.specs.Trees.{IsValue}
+use Rattle.mt_derive.specs.Values.{IsChanged}
+use Rattle.mt_feed.specs.Lines.{change_line}
+use Rattle.mt_feed.specs.Faring.{Fares}
 use Rattle.mt_derive.specs.Imports.{IsImport, LacksName, IsNamed}
 use Rattle.mt_cells.specs.declared.rules.RuleSet.{RuleSet}
 use Rattle.mt_table.specs.declared.table.Applied.{Applied}
@@ -54,8 +60,19 @@ abbrev pub IsDone : List Event → Event → List ℕ → Applied → Outcome �
 IsDone M (Import c) name applied o = o ≡ outcome.Accepted (length (imports_of M)) name applied.raised applied.tried
 IsDone M (Withdraw n) name applied o = o ≡ outcome.Withdrawn n name applied.raised applied.tried
 
--- what comes of a text that is accepted as this event, and the list after it
+-- the text is read as the event
+abbrev pub IsReadAs : Event → List ℕ → List ℕ → Type 0
+IsReadAs (Import c) name text = length text ≤ MOST_BYTES → IsTextOf text c
+IsReadAs (Withdraw n) name text = IsWithdrawal text name
+
+-- what comes of a text that is accepted as this event, and the list after it: the keeper refuses it, or the event is the last
 abbrev pub Ends : Bounds → RuleSet → List Event → Event → List ℕ → Outcome → List Event → Type 0
-Ends b rules E e name outcome.KeeperFault M = M ≡ E
-Ends b rules E e name outcome.Memory M = M ≡ E
-Ends b rules E e name o M = (applied : Applied) × IsAppended b rules E M e applied.raised × HasTried b rules E e applied.tried × IsDone M e name applied o
+Ends b rules E e name o M =
+    ((M ≡ E) × ((o ≡ outcome.KeeperFault) ⊎ (o ≡ outcome.Memory)))
+    ⊎ ((applied : Applied) × IsAppended b rules E M e applied.raised × HasTried b rules E e applied.tried × IsDone M e name applied o)
+
+-- a feed is told the cell's value over the list M, where it is another than over E
+abbrev pub TellsCell : {F : Type 0} → Bounds → RuleSet → (F → Option (List ℕ)) → (F → ℕ) → List Event → List Event → Cell → F → F → Type 0
+TellsCell b rules told faults E M c old new =
+    ((k : ℕ) × IsChanged b rules E M c × IsValue b rules (entries_of M) c k × Fares told faults (change_line (record { version = length M; cell = c; k = k })) old new)
+    ⊎ ((¬ IsChanged b rules E M c) × (new ≡ old))

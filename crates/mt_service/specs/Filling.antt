@@ -1,5 +1,5 @@
 -- Internal: the parts of an opening.
-use Rattle.std.specs.Prelude.{◌≡◌, ℕ, List, [], ◌∷◌, ◌++◌, MatchOption, Option, None, Some, Result, Ok, Err}
+use Rattle.std.specs.Prelude.{◌≡◌, ℕ, List, [], ◌∷◌, ◌++◌, Option, None, Some, Result, Ok, Err}
 use Rattle.mt_cells.specs.declared.bounds.Bounds.{Bounds}
 use Rattle.mt_derive.specs.declared.events.Event.{Event}
 use Rattle.mt_service.specs.declared.outcomes.Outcome.{Outcome}

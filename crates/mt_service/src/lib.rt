@@ -8,8 +8,12 @@ pub mod laws;
 mod lines;
 mod opening;
 mod outcomes;
+#[cfg(test)]
+mod record_tests;
 mod service;
 mod telling;
+#[cfg(test)]
+mod step_tests;
 #[cfg(test)]
 mod tests;
 

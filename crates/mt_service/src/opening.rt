@@ -1,7 +1,6 @@
 //! The list of events that a keeper's records stand for.
 ghost use Rattle.std.specs.Prelude.{◌≡◌, ◌≢◌, ◌≤◌, ◌<◌, ℕ, List, [], length, Ok, IfOk, IfErr};
 ghost use Rattle.mt_io.specs.Faults.{Rose};
-ghost use Rattle.mt_derive.specs.declared.events.Event.{Event};
 ghost use Rattle.mt_derive.specs.declared.imports.TheConstants.{MOST_EVENTS};
 ghost use Rattle.mt_keeper.specs.Keeping.{Loads};
 ghost use Rattle.mt_service.specs.declared.opening.OpenRefused.TheVariants as refused;

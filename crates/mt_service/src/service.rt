@@ -1,7 +1,7 @@
 //! One step of the list of events for each text.
-ghost use Rattle.std.specs.Prelude.{◌≡◌, ◌≤◌, ◌<◌, ℕ, List, MatchResult, IfOk};
+ghost use Rattle.std.specs.Prelude.{◌≡◌, ◌≤◌, ◌<◌, ◌+◌, ℕ, List, length, MatchResult, IfOk, OnOk};
 ghost use Rattle.mt_io.specs.Faults.{Rose};
-ghost use Rattle.mt_derive.specs.Events.{Follows, imports_of};
+ghost use Rattle.mt_derive.specs.Events.{Follows, AllFollow, imports_of};
 ghost use Rattle.mt_derive.specs.Imports.{IsNamed};
 ghost use Rattle.mt_import.specs.Texts.{IsImport};
 ghost use Rattle.mt_import.specs.Withdrawals.{IsWithdrawal};
@@ -12,7 +12,7 @@ ghost use Rattle.mt_table.specs.Tables.{HasTried};
 ghost use Rattle.mt_service.specs.Steps.{IsStep, IsAccepted, IsAppended};
 ghost use Rattle.mt_service.specs.Records.{IsKept, ArePut};
 ghost use Rattle.mt_service.specs.Telling.{AreTold};
-ghost use Rattle.mt_service.specs.Accepting.{HasName, IsDeclinedOrMemory, Compares, IsKnownAs, named_text, IsDone, Ends};
+ghost use Rattle.mt_service.specs.Accepting.{HasName, IsDeclinedOrMemory, Compares, IsKnownAs, named_text, IsReadAs, IsDone, Ends};
 
 use crate::gate::claim_within;
 use crate::outcomes::Outcome;
@@ -149,11 +149,13 @@ impl Service {
                 event: Event::Import(checked),
                 name,
             }),
-            Ok(Tested::Dependent {
-                part,
-                choice,
-                coefficients,
-            }) => Err(Outcome::Dependent {
+            Ok(
+                Tested::Dependent {
+                    part,
+                    choice,
+                    coefficients,
+                },
+            ) => Err(Outcome::Dependent {
                 form,
                 part,
                 choice,
@@ -218,12 +220,13 @@ impl Service {
         ensures later { K.faults keeper.old ≤ K.faults keeper.new }
         ensures fault { result ≡ Outcome.KeeperFault
             → Rose (K.faults keeper.old) (K.faults keeper.new) }
+        ensures kept { IsKept self.new.bounds (K.records keeper.new) self.new.events }
         ensures ends { Ends self.old.bounds self.old.rules self.old.events named.now.event
             named.now.name result self.new.events }
         ensures told { AreTold self.old.bounds self.old.rules (λ b. told b) (λ b. failures b)
             self.old.events self.new.events feeds.old.items feeds.new.items }
     {
-        match put(alloc, keeper, self.table.version() + 1, named) {
+        match put(alloc, keeper, self.next_number(), named) {
             Ok(()) => {}
             Err(KeeperRefused::Fault) => return Outcome::KeeperFault,
             Err(KeeperRefused::Memory) => return Outcome::Memory,
@@ -231,6 +234,14 @@ impl Service {
         let applied = self.append(&named.event);
         tell_all(feeds, &self.table);
         self.done(named, applied)
+    }
+
+    // The number of the event to come.
+    fn next_number(&self) -> u32
+        ensures number { result ≡ length self.now.events + 1 }
+        ensures follow { AllFollow self.now.bounds self.now.events }
+    {
+        self.table.imports().events() + 1
     }
 
     // Appends the event, with nobody told.
@@ -270,7 +281,8 @@ impl Service {
 
 // The canonical text of the event.
 fn canonical(alloc: Global, named: &NamedEvent) -> Result<Vec<u8>, AllocError>
-    ensures { IfOk result (λ text. text.items ≡ named_text named.now.event named.now.name) }
+    ensures text { IfOk result (λ text. text.items ≡ named_text named.now.event named.now.name) }
+    ensures reads { IfOk result (λ text. IsReadAs named.now.event named.now.name text.items) }
 {
     match &named.event {
         Event::Import(entry) => print_import(alloc, entry.claim()),
@@ -288,6 +300,8 @@ fn put<K: Keeper>(
     requires { IsNext (K.records keeper.old) number }
     ensures records { Puts (K.records keeper.old) (K.records keeper.new) result
         (named_text named.now.event named.now.name) }
+    ensures reads { OnOk result (IsReadAs named.now.event named.now.name
+        (named_text named.now.event named.now.name)) }
     ensures cause { HasKeeperCause (K.faults keeper.old) (K.faults keeper.new) result }
 {
     let text = canonical(alloc, named)?;

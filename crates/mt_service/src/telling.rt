@@ -6,6 +6,7 @@ ghost use Rattle.mt_feed.specs.declared.Change.{Change};
 ghost use Rattle.mt_feed.specs.Lines.{change_lines};
 ghost use Rattle.mt_feed.specs.Faring.{Fares};
 ghost use Rattle.mt_service.specs.Telling.{AreChanges, AreTold};
+ghost use Rattle.mt_service.specs.Accepting.{TellsCell};
 
 use mt_cells::Cell;
 use mt_feed::{Change, Feed, tell_unless_failed};
@@ -36,6 +37,9 @@ fn tell_feed(feed: &mut Box<dyn Feed + Send>, table: &Table)
 // Tells the feed the cell's value, where the last event changed it.
 fn tell_cell(feed: &mut Box<dyn Feed + Send>, table: &Table, cell: Cell)
     requires { InBounds table.now.bounds cell }
+    ensures { (E : List Event) (e : Event) → table.now.events ≡ E ++ e ∷ []
+        → TellsCell table.now.bounds table.now.rules (λ b. told b) (λ b. failures b)
+        E table.now.events cell feed.old feed.new }
 {
     let version = table.version();
     if table.since(cell) == version {
