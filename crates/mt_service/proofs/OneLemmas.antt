@@ -217,12 +217,12 @@ module _ (b : Bounds) (E : List Event) (text : List ℕ) where
 
     live_one : (n : ℕ) → One (Live n)
     live_one n = either_one (Leaf (¬ IsLive E n) 3 E) (Leaf (IsLive E n) 4 (E ++ Withdraw n ∷ [])) (leaf_one _ _ _) (leaf_one _ _ _)
-      (λ p q M N x y. x.0 y.0)
+        (λ p q M N x y. x.0 y.0)
 
     found_one : (name : List ℕ) → One (Found name)
     found_one name = either_one (Leaf (LacksName (imports_of E) name) 2 E) (Under ℕ (IsNamed (imports_of E) name) Live) (leaf_one _ _ _)
-      (under_one ℕ (IsNamed (imports_of E) name) Live (named_one (imports_of E) name) live_one)
-      (λ p q M N x y. named_apart (imports_of E) name y.0 y.1 x.0)
+        (under_one ℕ (IsNamed (imports_of E) name) Live (named_one (imports_of E) name) live_one)
+        (λ p q M N x y. named_apart (imports_of E) name y.0 y.1 x.0)
 
     known_one : (c : Statement) (n : ℕ) → One (Known c n)
     known_one c n =
@@ -230,8 +230,8 @@ module _ (b : Bounds) (E : List Event) (text : List ℕ) where
         let live : ℕ → List Event → Type 0 = Leaf (IsImport L n c × IsLive E n) 7 E in
         let dead : ℕ → List Event → Type 0 = Leaf (IsImport L n c × ¬ IsLive E n) 8 E in
         either_one (Leaf (¬ IsImport L n c) 9 E) (Either live dead) (leaf_one _ _ _)
-          (either_one live dead (leaf_one _ _ _) (leaf_one _ _ _) (λ p q M N x y. y.0.1 x.0.1))
-          (λ p q M N x y. x.0 (elim y [ inl z ↦ z.0.0 | inr z ↦ z.0.0 ]))
+        (either_one live dead (leaf_one _ _ _) (leaf_one _ _ _) (λ p q M N x y. y.0.1 x.0.1))
+        (λ p q M N x y. x.0 (elim y [ inl z ↦ z.0.0 | inr z ↦ z.0.0 ]))
 
     room_one : (c : Statement) → One (Room c)
     room_one c =
@@ -239,22 +239,22 @@ module _ (b : Bounds) (E : List Event) (text : List ℕ) where
         let fails : ℕ → List Event → Type 0 = Leaf ((length L < MOST_IMPORTS) × Fails c) 11 E in
         let holds : ℕ → List Event → Type 0 = Leaf ((length L < MOST_IMPORTS) × Holds c) 12 (E ++ Import c ∷ []) in
         either_one (Leaf (MOST_IMPORTS ≤ length L) 10 E) (Either fails holds) (leaf_one _ _ _)
-          (either_one fails holds (leaf_one _ _ _) (leaf_one _ _ _)
-            (λ p q M N x y. failure_fails c.form c.system c.k x.0.1.0 x.0.1.1 x.0.1.2 x.0.1.3 y.0.1))
-          (λ p q M N x y. let room : length L < MOST_IMPORTS = elim y [ inl z ↦ z.0.0 | inr z ↦ z.0.0 ] in omega (arith, x.0, room))
+        (either_one fails holds (leaf_one _ _ _) (leaf_one _ _ _)
+        (λ p q M N x y. failure_fails c.form c.system c.k x.0.1.0 x.0.1.1 x.0.1.2 x.0.1.3 y.0.1))
+        (λ p q M N x y. let room : length L < MOST_IMPORTS = elim y [ inl z ↦ z.0.0 | inr z ↦ z.0.0 ] in omega (arith, x.0, room))
 
     claimed_one : (c : Statement) → One (Claimed c)
     claimed_one c = either_one (Leaf (MOST_CHOICES < choices c) 6 E) (Taken c) (leaf_one _ _ _)
-      (λ p q M N x y. either_one (Under ℕ (IsNamed (imports_of E) c.name) (Known c)) (New c)
+        (λ p q M N x y. either_one (Under ℕ (IsNamed (imports_of E) c.name) (Known c)) (New c)
         (under_one ℕ (IsNamed (imports_of E) c.name) (Known c) (named_one (imports_of E) c.name) (known_one c))
         (λ p q M N x y. room_one c p q M N x.1 y.1)
         (λ p q M N x y. named_apart (imports_of E) c.name x.0 x.1 y.0) p q M N x.1 y.1)
-      (λ p q M N x y. omega (arith, x.0, y.0))
+        (λ p q M N x y. omega (arith, x.0, y.0))
 
     imports_one : One Imports
     imports_one = either_one (Leaf IsOver 5 E) (Under Statement (IsTextWithin b text) Claimed) (leaf_one _ _ _)
-      (under_one Statement (IsTextWithin b text) Claimed within_one claimed_one)
-      (λ p q M N x y. over_apart x.0.0 x.0.1 x.0.2 y.0 x.0.3 y.1)
+        (under_one Statement (IsTextWithin b text) Claimed within_one claimed_one)
+        (λ p q M N x y. over_apart x.0.0 x.0.1 x.0.2 y.0 x.0.3 y.1)
 
     import_of : (p : ℕ) (M : List Event) → Imports p M → IsSomeImport text
     import_of p M (inl (over, at, is)) = (over.3.header, over.3.note, over.3.digits, over.3.import)
@@ -262,9 +262,9 @@ module _ (b : Bounds) (E : List Event) (text : List ℕ) where
 
     pub comes_one : One Comes
     comes_one = either_one Refused (Either Withdraws Imports) (leaf_one _ _ _)
-      (either_one Withdraws Imports (under_one (List ℕ) (IsWithdrawal text) Found withdrawal found_one) imports_one
+        (either_one Withdraws Imports (under_one (List ℕ) (IsWithdrawal text) Found withdrawal found_one) imports_one
         (λ p q M N x y. let i = import_of q N y in kind i.0 i.1 i.2 x.0 i.3 x.1))
-      (λ p q M N x y. either x.0.0 (elim y [ inl w ↦ inr (w.0, w.1) | inr i ↦ inl (import_of q N i) ]) x.0.1)
+        (λ p q M N x y. either x.0.0 (elim y [ inl w ↦ inr (w.0, w.1) | inr i ↦ inl (import_of q N i) ]) x.0.1)
 
     -- a text is accepted as one event
     pub accepted_one : (e f : Event) → IsAccepted b E text e → IsAccepted b E text f → e ≡ f

@@ -11,9 +11,9 @@ mod outcomes;
 #[cfg(test)]
 mod record_tests;
 mod service;
-mod telling;
 #[cfg(test)]
 mod step_tests;
+mod telling;
 #[cfg(test)]
 mod tests;
 

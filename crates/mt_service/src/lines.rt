@@ -24,18 +24,33 @@ impl Outcome {
         match self {
             Outcome::Form(refused) => form_line(alloc, *refused),
             Outcome::NoImport { name } => name_line(alloc, b"refused: no import ", name),
-            Outcome::AlreadyWithdrawn { number, name } =>
-                import_line(alloc, b"already withdrawn ", *number, name, b"\n"),
+            Outcome::AlreadyWithdrawn { number, name } => import_line(
+                alloc,
+                b"already withdrawn ",
+                *number,
+                name,
+                b"\n",
+            ),
             Outcome::Range {
                 name,
                 number,
                 limit,
             } => range_line(alloc, *name, *number, *limit),
             Outcome::TooManyChoices { count } => choices_line(alloc, *count),
-            Outcome::Already { number, name } =>
-                import_line(alloc, b"already ", *number, name, b"\n"),
-            Outcome::IsWithdrawn { number, name } =>
-                import_line(alloc, b"refused: import ", *number, name, b" is withdrawn\n"),
+            Outcome::Already { number, name } => import_line(
+                alloc,
+                b"already ",
+                *number,
+                name,
+                b"\n",
+            ),
+            Outcome::IsWithdrawn { number, name } => import_line(
+                alloc,
+                b"refused: import ",
+                *number,
+                name,
+                b" is withdrawn\n",
+            ),
             Outcome::NameTaken { number, name } => taken_line(alloc, *number, name),
             Outcome::Full => full_line(alloc),
             Outcome::Dependent {

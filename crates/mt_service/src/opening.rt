@@ -46,10 +46,7 @@ pub enum OpenRefused {
     /// There are so many records, which are more than there may be events.
     TooMany(u32),
     /// The record of this number, counted from 1, is the first bad one.
-    BadRecord {
-        number: u32,
-        why: Why,
-    },
+    BadRecord { number: u32, why: Why },
     /// Want of memory.
     Memory,
 }

@@ -38,7 +38,11 @@ fn the_first_bad_record_is_told(rt: HostRuntime) -> Result<(), Fail> {
     let cases: [(&[u8], &[u8], &[u8]); 6] = [
         (b"", good, b"store: record 1: form\n"),
         (good, b"withdraw two\n", b"store: record 2: unknown\n"),
-        (good, b"ooa 2 5 1 1 0 m\n00000\n", b"store: record 2: range\n"),
+        (
+            good,
+            b"ooa 2 5 1 1 0 m\n00000\n",
+            b"store: record 2: range\n",
+        ),
         (good, good, b"store: record 2: name\n"),
         (
             good,
