@@ -26,7 +26,7 @@ accepted_length b E [] (e ∷ F) a = absurd a
 accepted_length b E (t ∷ ts) [] a = absurd a
 accepted_length b E (t ∷ ts) (e ∷ F) a = ap suc (accepted_length b (E ++ e ∷ []) ts F a.1)
 
-accepted_push : (b : Bounds) (E : List Event) (texts : List (List ℕ)) (F : List Event) (text : List ℕ) (e : Event) → AreAccepted b E texts F → IsAccepted b (E ++ F) text e
+pub accepted_push : (b : Bounds) (E : List Event) (texts : List (List ℕ)) (F : List Event) (text : List ℕ) (e : Event) → AreAccepted b E texts F → IsAccepted b (E ++ F) text e
     → AreAccepted b E (texts ++ text ∷ []) (F ++ e ∷ [])
 accepted_push b E [] [] text e a h = (subst (λ (L : List Event). IsAccepted b L text e) (append-nil E) h, tt)
 accepted_push b E [] (d ∷ F) text e a h = absurd a

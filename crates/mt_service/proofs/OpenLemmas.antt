@@ -12,15 +12,8 @@ use Rattle.mt_service.specs.declared.opening.Bad.TheVariants as bad
 use Rattle.mt_service.specs.Steps.{IsAccepted}
 use Rattle.mt_service.specs.Records.{AreAccepted}
 use Rattle.mt_service.specs.Opening.{IsBad}
+use Rattle.mt_service.proofs.KeptLemmas.{accepted_push}
 use Rattle.mt_service.specs.Filling.{Adopts, Fills, refused_of}
-
-accepted_push : (b : Bounds) (A : List Event) (texts : List (List ℕ)) (M : List Event) (text : List ℕ) (e : Event) → AreAccepted b A texts M → IsAccepted b (A ++ M) text e
-    → AreAccepted b A (texts ++ text ∷ []) (M ++ e ∷ [])
-accepted_push b A [] [] text e g h = (subst (λ (E : List Event). IsAccepted b E text e) (append-nil A) h, tt)
-accepted_push b A [] (f ∷ M) text e g h = absurd g
-accepted_push b A (t ∷ ts) [] text e g h = absurd g
-accepted_push b A (t ∷ ts) (f ∷ M) text e g h =
-    (g.0, accepted_push b (A ++ f ∷ []) ts M text e g.1 (subst (λ (E : List Event). IsAccepted b E text e) (sym (append_assoc A (f ∷ []) M)) h))
 
 less : (i : ℕ) → i + 1 - 1 ≡ i
 less i = omega arith
