@@ -14,8 +14,8 @@ pub fn one_list()
     mt_import::laws::one_reading();
 }
 
-/// Over one list a text comes to one outcome, but for the keeper's fault, want of memory and how many
-/// instances were tried, and to one list.
+/// Over one list a text comes to one kind of outcome and to one list, but for the keeper's fault and
+/// want of memory.
 pub fn one_step()
     ensures { (b : Bounds) (rules : RuleSet) (E : List Event) (text : List ℕ)
         → HasOneStep b rules E text }
