@@ -1,7 +1,7 @@
 -- What holds of each state that happenings lead to.
-use Rattle.std.proofs.Common.{◌≡◌, ◌⊎◌, ℕ, zero, suc, ◌+◌, ◌-◌, ◌<◌, ◌≤◌, max, ◌==◌, Bool, true, false, cond, List, [], ◌∷◌, ◌++◌, length, take, get_or, Contains, inl, inr, refl, sym, ap, ◌∙◌, subst, arith, append_assoc, append-nil, length-append}
+use Rattle.std.proofs.Common.{◌≡◌, ◌⊎◌, ℕ, zero, suc, ◌+◌, ◌≤◌, ◌==◌, Bool, true, false, cond, List, [], ◌∷◌, ◌++◌, length, take, drop, take-append-drop, Contains, inl, inr, refl, sym, ap, ◌∙◌, subst, arith, append_assoc, append-nil, length-append}
 use Rattle.std.proofs.lemmas.List.Elements.{All-nil, All-cons, All-head, All-tail, All-weaker}
-use mathlib.Core.List.{IsPrefix, take-prefix}
+use mathlib.Core.List.{IsPrefix}
 use Rattle.mt_system.specs.declared.claims.Form.{Form}
 use Rattle.mt_system.specs.declared.claims.Form.TheVariants.{Ooa, Net, Seq}
 use Rattle.mt_system.specs.Rows.{Matrices}
@@ -17,7 +17,7 @@ use Rattle.mt_publish.specs.Prefixes.{AllPrefixes, longest}
 use Rattle.mt_service.specs.declared.outcomes.Outcome.{Outcome}
 use Rattle.mt_service.specs.declared.outcomes.Outcome.TheVariants as outcome
 use Rattle.mt_service.specs.Steps.{IsStep, IsAccepted}
-use Rattle.mt_server.specs.Interleavings.{Happening, accept, publish, view, front, learn, State, opening, also_shown, next_state, state_after, outcomes_of, MayCome, AllMayCome, AreSteps, IsOneHistory, AllAreOneHistory}
+use Rattle.mt_server.specs.Interleavings.{Happening, accept, publish, view, front, learn, State, opening, also_shown, next_state, state_after, outcomes_of, MayCome, AllMayCome, AreSteps, AllAreOneHistory}
 use Rattle.mt_server.proofs.OnceLemmas.{all_once}
 
 -- ---- prefixes
@@ -33,13 +33,13 @@ module _ {X : Type 0} where
   prefixes_further xs ys ls p all = All-weaker (λ l. IsPrefix l xs) (λ l. IsPrefix l ys) (λ l q. prefix_trans l xs ys q p) ls all
 
   -- a short prefix begins the first n
-  first_begins : (l t : List X) (n : ℕ) → length l ≤ n → l ++ take (n - length l) t ≡ take n (l ++ t)
-  first_begins [] t n few = refl
+  first_begins : (l t : List X) (n : ℕ) → length l ≤ n → IsPrefix l (take n (l ++ t))
+  first_begins [] t n few = (take n t, refl)
   first_begins (x ∷ l) t zero few = absurd (omega arith)
-  first_begins (x ∷ l) t (suc n) few = ap (λ w. x ∷ w) (first_begins l t n (omega arith))
+  first_begins (x ∷ l) t (suc n) few = let p = first_begins l t n (omega arith) in (p.0, ap (λ w. x ∷ w) p.1)
 
   prefix_take : (l xs : List X) (n : ℕ) → IsPrefix l xs → length l ≤ n → IsPrefix l (take n xs)
-  prefix_take l xs n p few = (take (n - length l) p.0, first_begins l p.0 n few ∙ ap (take n) p.1)
+  prefix_take l xs n p few = subst (λ (ys : List X). IsPrefix l (take n ys)) p.1 (first_begins l p.0 n few)
 
   prefixes_take : (xs : List X) (n : ℕ) (ls : List (List X)) → AllPrefixes xs ls → longest ls ≤ n → AllPrefixes (take n xs) ls
   prefixes_take xs n [] all few = All-nil (λ l. IsPrefix l (take n xs))
@@ -48,7 +48,7 @@ module _ {X : Type 0} where
       (prefixes_take xs n ls (All-tail (λ l. IsPrefix l xs) l ls all) (omega arith))
 
   -- the list is xs, or has one more at the end
-  IsNext : List X → List X → Type 0
+  abbrev IsNext : List X → List X → Type 0
   IsNext xs ys = (ys ≡ xs) ⊎ ((x : X) × (ys ≡ xs ++ x ∷ []))
 
   next_begins : (xs ys : List X) → IsNext xs ys → IsPrefix xs ys
@@ -77,7 +77,7 @@ accepted_follows b E text (Withdraw n) (name, to_withdraw, live) = live
 
 module _ (b : Bounds) (rules : RuleSet) where
   -- a step leaves the list, or appends an event that may follow
-  Grows : List Event → List Event → Type 0
+  abbrev Grows : List Event → List Event → Type 0
   Grows E M = (M ≡ E) ⊎ ((e : Event) × Follows b E e × (M ≡ E ++ e ∷ []))
 
   step_grows : (E : List Event) (text : List ℕ) (o : Outcome) (M : List Event) → IsStep b rules E text o M → Grows E M
@@ -146,7 +146,7 @@ module _ (b : Bounds) (rules : RuleSet) where
   next_sound s (view reader n) k may = record {
     follow = k.follow;
     next = k.next;
-    shown = also_prefixes s.published s.shown reader (take n s.published) (take-prefix n s.published) k.shown;
+    shown = also_prefixes s.published s.shown reader (take n s.published) (drop n s.published, take-append-drop n s.published) k.shown;
     fronts = k.fronts;
   }
   next_sound s front k may = record {
