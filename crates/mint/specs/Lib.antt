@@ -1,5 +1,6 @@
 pub mod Input
 pub mod Output
+pub mod Store
 pub mod Run
 pub mod Starts
 pub mod Statuses

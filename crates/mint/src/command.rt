@@ -30,49 +30,82 @@ use std::sync::ledger::{Blank, Ledger};
 /// The most bytes of the input that a check reads: one more than an import text may have.
 pub const MOST_READ: usize = MOST_BYTES + 1;
 
-/// Does what the words ask for, with this input and output, and answers how it ended.
+/// Does what the words ask for, with the records of this keeper, these feeds, this input and this
+/// output, and answers how it ended.
 ///
 /// `M,S check` reads one import text from the input, to its end or to [`MOST_READ`] bytes, and
-/// writes whether its claim holds. `M,S value` and a question write the greatest value that a derivation
-/// has for a cell, `M,S tree` and the same question a derivation with this value, and `M,S matrix`
-/// the generator matrices that it makes, as an import text. `M,S table` and `M,S export` write the
-/// values of many cells, and `M,S niederreiter` the generator matrices of a sequence, as an import
-/// text. Where a number is outside the bounds, they write the first such number instead, and make no
-/// table. All other words give the usage. Only `check` touches the input. What is written is written
-/// once the answer is known.
-pub fn run_command<R: Source, W: Sink>(
+/// writes whether its claim holds. `M,S import` reads one text likewise, which imports a claim or
+/// withdraws an import, and writes what comes of it; what is accepted is put behind the records, and
+/// the feeds are told of the values that change. `M,S value` and a question write the greatest value
+/// that a derivation has for a cell over the records, `M,S tree` and the same question a derivation
+/// with this value, and `M,S matrix` the generator matrices that it makes, as an import text.
+/// `M,S table` and `M,S export` write the values of many cells. `M,S generate` imports claims that
+/// are drawn at random, and `M,S niederreiter` writes the generator matrices of a sequence, as an
+/// import text. Where a number is outside the bounds, they write the first such number instead, and
+/// open no store; where the records are refused, they write why. All other words give the usage.
+/// What is written is written once the answer is known.
+pub fn run_command<K: Keeper, R: Source, W: Sink>(
     alloc: Global,
     words: &[String],
+    keeper: &mut K,
+    feeds: &mut Vec<Box<dyn Feed + Send>>,
     input: &mut R,
     output: &mut W,
 ) -> Status
     // The text of the run was written whole, or a prefix of it, or nothing.
-    ensures done { ending result ≡ Finished → IsFinished (map string_bytes words.now)
-        (record { input = R.left input.old; output = W.written output.old })
-        (record { input = R.left input.new; output = W.written output.new }) result }
-    ensures cut { ending result ≡ CutOff → IsCutOff (map string_bytes words.now)
-        (record { input = R.left input.old; output = W.written output.old })
-        (record { input = R.left input.new; output = W.written output.new }) }
-    ensures given_up { ending result ≡ GivenUp → IsGivenUp (map string_bytes words.now) result }
+    ensures done { ending result ≡ Finished → IsFinished (λ b. told b) (λ b. failures b)
+        (map string_bytes words.now)
+        (record { input = R.left input.old; output = W.written output.old; records = K.records keeper.old })
+        (record { input = R.left input.new; output = W.written output.new; records = K.records keeper.new })
+        feeds.old.items feeds.new.items result }
+    ensures cut { ending result ≡ CutOff → IsCutOff (λ b. told b) (λ b. failures b)
+        (map string_bytes words.now)
+        (record { input = R.left input.old; output = W.written output.old; records = K.records keeper.old })
+        (record { input = R.left input.new; output = W.written output.new; records = K.records keeper.new })
+        feeds.old.items feeds.new.items }
+    ensures given_up { ending result ≡ GivenUp → IsGivenUp (λ b. told b) (λ b. failures b)
+        (map string_bytes words.now)
+        (record { input = R.left input.old; output = W.written output.old; records = K.records keeper.old })
+        (record { input = R.left input.new; output = W.written output.new; records = K.records keeper.new })
+        feeds.old.items feeds.new.items result }
     ensures unwritten { ending result ≡ GivenUp → output.new ≡ output.old }
 
-    // Only a command that reads the input touches it.
+    // Only a command that reads the input touches it, and only one that opens the store its keeper.
     ensures unread { LeavesInput (map string_bytes words.now) → input.new ≡ input.old }
     ensures most { TakesAtMost MOST_READ (R.left input.old) (R.left input.new) }
+    ensures unopened { LeavesStore (map string_bytes words.now) → keeper.new ≡ keeper.old }
 
     // It doesn't give up by itself.
     ensures read_fault { result ≡ Status.ReadFault
         → Rose (R.faults input.old) (R.faults input.new) }
     ensures write_fault { result ≡ Status.WriteFault
         → Rose (W.faults output.old) (W.faults output.new) }
+    ensures keeper_fault { result ≡ Status.KeeperFault
+        → Rose (K.faults keeper.old) (K.faults keeper.new) }
 {
     let Some(command) = read_words(words) else {
         return write_answer(output, Status::Words, USAGE);
     };
-    match done(alloc, command, input) {
+    match done(alloc, command, keeper, feeds, input) {
         Ok(answer) => write_answer(output, answer.status, &answer.text),
-        Err(InputRefused::Memory) => Status::Memory,
-        Err(InputRefused::Fault) => Status::ReadFault,
+        Err(cause) => given_up(cause),
+    }
+}
+
+// Why a command is given up.
+#[derive(Clone, Copy)]
+enum Cause {
+    Memory,
+    ReadFault,
+    KeeperFault,
+}
+
+// The status of a command that is given up.
+fn given_up(cause: Cause) -> Status {
+    match cause {
+        Cause::Memory => Status::Memory,
+        Cause::ReadFault => Status::ReadFault,
+        Cause::KeeperFault => Status::KeeperFault,
     }
 }
 
@@ -84,43 +117,81 @@ struct Answer {
 }
 
 // Does the task of a command.
-fn done<R: Source>(alloc: Global, command: Command, input: &mut R) -> Result<Answer, InputRefused>
-    requires { (question : Question) → command.task ≡ Task.Ask question → HasText question }
-
-    // Whatever the output tells.
-    ensures answer { IfOk result (λ a. (x y : Option (List ℕ)) → Does command.bounds command.task
-        (record { input = R.left input.old; output = x })
-        (record { input = R.left input.new; output = y }) a.status a.text.items) }
-    ensures finished { IfOk result (λ a. ending a.status ≡ Finished) }
-    ensures most { TakesAtMost MOST_READ (R.left input.old) (R.left input.new) }
-    ensures unread { ¬ ReadsInput command.task → input.new ≡ input.old }
-    ensures reads { IsErrOf result InputRefused.Fault → ReadsInput command.task }
-    ensures fault { IsErrOf result InputRefused.Fault
-        → Rose (R.faults input.old) (R.faults input.new) }
-{
+fn done<K: Keeper, R: Source>(
+    alloc: Global,
+    command: Command,
+    keeper: &mut K,
+    feeds: &mut Vec<Box<dyn Feed + Send>>,
+    input: &mut R,
+) -> Result<Answer, Cause> {
+    let bounds = command.bounds;
     match command.task {
-        Task::Check => checked_input(alloc, command.bounds, input),
-        Task::Ask(question) => Ok(answered(alloc, command.bounds, &question)?),
-        Task::Niederreiter { q, m, s } => Ok(sequence_made(alloc, command.bounds, q, m, s)?),
+        Task::Check => checked_input(alloc, bounds, input),
+        Task::Ask(question) => answered(alloc, bounds, keeper, &question),
+        Task::Import => imported(alloc, bounds, keeper, feeds, input),
+        Task::Niederreiter { q, m, s } => Ok(sequence_made(alloc, bounds, q, m, s)?),
+        Task::Generate { seed, count } => generated_in(alloc, bounds, keeper, feeds, seed, count),
     }
 }
 
-// The answer for the text on the input.
-fn checked_input<R: Source>(
+// The service over the records by all rules, or the line for why they are refused.
+fn opened<K: Keeper>(
     alloc: Global,
     bounds: Bounds,
+    keeper: &mut K,
+) -> Result<Result<Service, Answer>, Cause> {
+    match Service::open(alloc, keeper, bounds, RuleSet::all()) {
+        Ok(service) => Ok(Ok(service)),
+        Err(OpenRefused::KeeperFault) => Err(Cause::KeeperFault),
+        Err(OpenRefused::Memory) => Err(Cause::Memory),
+        Err(refused) => Ok(Err(Answer {
+            status: Status::BadStore,
+            text: refused.line(alloc)?,
+        })),
+    }
+}
+
+// The answer for the text on the input, which is imported.
+fn imported<K: Keeper, R: Source>(
+    alloc: Global,
+    bounds: Bounds,
+    keeper: &mut K,
+    feeds: &mut Vec<Box<dyn Feed + Send>>,
     input: &mut R,
-) -> Result<Answer, InputRefused>
-    ensures answer { IfOk result (λ a. (text : List ℕ)
-        × IsInput MOST_READ (R.left input.old) (R.left input.new) text
-        × IsCheck bounds text a.status a.text.items) }
-    ensures finished { IfOk result (λ a. ending a.status ≡ Finished) }
-    ensures most { TakesAtMost MOST_READ (R.left input.old) (R.left input.new) }
-    ensures fault { IsErrOf result InputRefused.Fault
-        → Rose (R.faults input.old) (R.faults input.new) }
-{
+) -> Result<Answer, Cause> {
+    match opened(alloc, bounds, keeper)? {
+        Ok(mut service) => import_input(alloc, &mut service, keeper, feeds, input),
+        Err(answer) => Ok(answer),
+    }
+}
+
+// Imports the text on the input into the service.
+fn import_input<K: Keeper, R: Source>(
+    alloc: Global,
+    service: &mut Service,
+    keeper: &mut K,
+    feeds: &mut Vec<Box<dyn Feed + Send>>,
+    input: &mut R,
+) -> Result<Answer, Cause> {
     let text = read_input(alloc, input, MOST_READ)?;
-    Ok(checked_text(alloc, bounds, &text)?)
+    let outcome = service.import(alloc, keeper, feeds, &text);
+    Ok(Answer {
+        status: status_by(&outcome)?,
+        text: outcome.line(alloc)?,
+    })
+}
+
+// How an import ends that comes to this, or why it is given up.
+fn status_by(outcome: &Outcome) -> Result<Status, Cause> {
+    match outcome {
+        Outcome::Accepted { .. }
+        | Outcome::Withdrawn { .. }
+        | Outcome::Already { .. }
+        | Outcome::AlreadyWithdrawn { .. } => Ok(Status::Ok),
+        Outcome::KeeperFault => Err(Cause::KeeperFault),
+        Outcome::Memory => Err(Cause::Memory),
+        _ => Ok(Status::Refused),
+    }
 }
 
 // The answer for a text.

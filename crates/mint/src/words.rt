@@ -7,6 +7,7 @@ ghost use Rattle.mint.specs.declared.words.Command.{Command};
 ghost use Rattle.mint.specs.Words.{bounds_word, IsSizes, IsAskFor, AreTwo, AreThree, IsTask, IsCommand};
 
 use mt_cells::{Ask, Bounds, Kind, Question, plain_number};
+use mt_derive::MOST_IMPORTS;
 
 /// A command, and the bounds of the table.
 #[derive(Clone, Copy, PartialEq, Eq, Debug)]
@@ -22,8 +23,12 @@ pub enum Task {
     Check,
     /// Answer a question.
     Ask(Question),
+    /// Import one text from the input: an import text, or a withdrawal text.
+    Import,
     /// Write Niederreiter's matrices over the field of q elements, of m columns, for s coordinates.
     Niederreiter { q: u64, m: u64, s: u64 },
+    /// Import the first `count` claims that the seed gives.
+    Generate { seed: u64, count: u32 },
 }
 
 /// The command of these words, or `None` where they have no form:
@@ -33,7 +38,9 @@ pub enum Task {
 /// - the same with `tree` or `matrix` in place of `value`;
 /// - `M,S table Q M`;
 /// - `M,S export`;
-/// - `M,S niederreiter Q M S`.
+/// - `M,S import`;
+/// - `M,S niederreiter Q M S`;
+/// - `M,S generate SEED COUNT`, COUNT from 1 to 1,024.
 ///
 /// `M,S` are bounds. A number is decimal, without sign and without a zero in front but for `0`
 /// itself, and is below 2^64.
@@ -88,9 +95,23 @@ fn read_task(words: &[String]) -> Option<Task>
             at_end(words)?;
             Some(Task::Ask(Question::Export))
         }
+        "import" => {
+            at_end(words)?;
+            Some(Task::Import)
+        }
         "niederreiter" => {
             let (q, m, s) = read_three(words)?;
             Some(Task::Niederreiter { q, m, s })
+        }
+        "generate" => {
+            let (seed, count) = read_two(words)?;
+            if count < 1 || count > MOST_IMPORTS as u64 {
+                return None;
+            }
+            Some(Task::Generate {
+                seed,
+                count: count as u32,
+            })
         }
         _ => None,
     }

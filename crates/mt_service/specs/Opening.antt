@@ -40,9 +40,15 @@ pub record IsFirstBad (b : Bounds) (records : List (List ℕ)) (n : ℕ) (w : Wh
   pub accepted : AreAccepted b [] (take (n - 1) records) before
   pub bad : IsBad b before (get_or records (n - 1) []) w
 
+-- why the records stand for no list
+abbrev pub AreRefused : Bounds → List (List ℕ) → OpenRefused → Type 0
+AreRefused b records (refused.TooMany n) = (n ≡ length records) × (MOST_EVENTS < n)
+AreRefused b records (refused.BadRecord n w) = IsFirstBad b records n w
+AreRefused b records r = ⊥
+
 -- the table that is opened over the records, or why they are refused; the keeper's fault has its own cause, and want of memory is free
 abbrev pub IsOpening : Bounds → List (List ℕ) → Result Contents OpenRefused → Type 0
 IsOpening b records (Ok t) = StandFor b records t.events
-IsOpening b records (Err (refused.TooMany n)) = (n ≡ length records) × (MOST_EVENTS < n)
-IsOpening b records (Err (refused.BadRecord n w)) = IsFirstBad b records n w
-IsOpening b records (Err r) = Unit {0}
+IsOpening b records (Err refused.KeeperFault) = Unit {0}
+IsOpening b records (Err refused.Memory) = Unit {0}
+IsOpening b records (Err r) = AreRefused b records r
