@@ -1,5 +1,5 @@
 -- The texts that the program writes. Each ends with a line feed.
-use Rattle.std.specs.Prelude.{ℕ, Bool, true, false, not, ◌||◌, List, [], ◌∷◌, ◌++◌, length, codes, decimal, count_by, sum_by}
+use Rattle.std.specs.Prelude.{ℕ, ◌-◌, ◌^◌, min, Bool, true, false, not, ◌||◌, List, [], ◌∷◌, ◌++◌, length, codes, decimal, count_by, sum_by}
 use Rattle.mt_service.specs.declared.outcomes.Outcome.{Outcome}
 use Rattle.mt_service.specs.declared.outcomes.Outcome.TheVariants as outcome
 use Rattle.mt_system.specs.declared.claims.Form.TheVariants.{Seq}
@@ -30,7 +30,7 @@ abbrev pub tried_by : Outcome → ℕ
 tried_by (outcome.Accepted n name raised tried) = tried
 tried_by o = 0
 
--- the line for imports with these outcomes, after which the table has this score
+-- the line for imports with these outcomes, after which the table has this score; the last number stops at the greatest u64
 abbrev pub generated_text : List Outcome → ℕ → List ℕ
 generated_text outcomes score =
     codes "generated " ++ decimal (length outcomes)
@@ -38,4 +38,4 @@ generated_text outcomes score =
     ++ codes ", already " ++ decimal (count_by is_already outcomes)
     ++ codes ", refused " ++ decimal (count_by (λ o. not (is_accepted o || is_already o)) outcomes)
     ++ codes ", score " ++ decimal score
-    ++ codes ", tried " ++ decimal (sum_by tried_by outcomes) ++ 10 ∷ []
+    ++ codes ", tried " ++ decimal (min (sum_by tried_by outcomes) (2 ^ 64 - 1)) ++ 10 ∷ []

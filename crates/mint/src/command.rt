@@ -211,12 +211,14 @@ fn checked_text(alloc: Global, bounds: Bounds, text: &[u8]) -> Result<Answer, Al
     }
 }
 
-// The answer to a question, from a table made for it, or the line for what is outside the bounds.
-fn answered(alloc: Global, bounds: Bounds, question: &Question) -> Result<Answer, AllocError>
+// The answer to a question over the records, or the line for what is outside the bounds.
+fn answered<K: Keeper>(
+    alloc: Global,
+    bounds: Bounds,
+    keeper: &mut K,
+    question: &Question,
+) -> Result<Answer, Cause>
     requires { HasText question.now }
-    ensures answer { IfOk result (λ a. IsReply bounds (sizes_of question.now)
-        (IsAnswered bounds question.now) a.status a.text.items) }
-    ensures finished { IfOk result (λ a. ending a.status ≡ Finished) }
 {
     if let Some(outside) = question.outside(bounds) {
         return Ok(Answer {
@@ -224,11 +226,13 @@ fn answered(alloc: Global, bounds: Bounds, question: &Question) -> Result<Answer
             text: outside_line(alloc, outside)?,
         });
     }
-    let table = table_of::<Brand>(alloc, bounds, Blank::new(1))?;
-    Ok(Answer {
-        status: Status::Ok,
-        text: text(alloc, &table, question)?,
-    })
+    match opened(alloc, bounds, keeper)? {
+        Ok(service) => Ok(Answer {
+            status: Status::Ok,
+            text: text(alloc, service.table(), question)?,
+        }),
+        Err(answer) => Ok(answer),
+    }
 }
 
 // The answer with Niederreiter's matrices, or the line for what is outside the bounds.
@@ -260,23 +264,6 @@ fn sequence_made(
         status: Status::Ok,
         text: sequence_lines(alloc, order, m as u8, s as u8)?,
     })
-}
-
-// The table of all rules, whose steps nobody counts.
-pub(crate) fn table_of<L: Ledger>(
-    alloc: Global,
-    bounds: Bounds,
-    blank: Blank,
-) -> Result<Table, AllocError>
-    requires name { blank.name ≡ L.name }
-    requires parts { blank.parts ≡ L.parts }
-    requires some { 0 < L.parts }
-    ensures bounds { IfOk result (λ t. t.bounds ≡ bounds) }
-    ensures rules { IfOk result (λ t. (rule : Rule) → has_rule t.rules rule ≡ true) }
-    ensures events { IfOk result (λ t. t.events ≡ []) }
-{
-    let mut steps = Steps::<L>::of(blank);
-    Table::new(alloc, bounds, RuleSet::all(), &mut steps)
 }
 
 /// Writes the text, and answers the status, or that the output failed.
