@@ -2,6 +2,8 @@ pub mod Input
 pub mod Output
 pub mod Store
 pub mod Run
+pub mod Doing
+pub mod Generating
 pub mod Starts
 pub mod Statuses
 pub mod Texts

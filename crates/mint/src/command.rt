@@ -1,31 +1,36 @@
 //! The top call.
-ghost use Rattle.std.specs.Prelude.{◌≡◌, ◌≢◌, ◌<◌, ℕ, List, Option, true, [], map, string_bytes, IfOk, IsErrOf};
+ghost use Rattle.std.specs.Prelude.{◌≡◌, ◌≢◌, ◌<◌, ℕ, List, Option, true, [], map, string_bytes, IfOk, IfErr, IsErrOf};
 ghost use Rattle.mt_io.specs.Faults.{Rose};
-ghost use Rattle.mt_cells.specs.declared.rules.Rule.{Rule};
 ghost use Rattle.mt_cells.specs.declared.asks.Question.{Question};
-ghost use Rattle.mt_cells.specs.Asks.{sizes_of};
-ghost use Rattle.mt_cells.specs.Instances.{has_rule};
-ghost use Rattle.mt_answer.specs.Answers.{HasText};
+ghost use Rattle.mt_cells.specs.declared.rules.RuleSet.{RuleSet};
+ghost use Rattle.mt_cells.specs.Asks.{sizes_of, IsInside};
+ghost use Rattle.mt_derive.specs.declared.events.Event.{Event};
+ghost use Rattle.mt_answer.specs.Answers.{HasText, IsTextFor};
 ghost use Rattle.mint.specs.Input.{IsInput, TakesAtMost};
 ghost use Rattle.mint.specs.Output.{Wrote, WrotePrefix};
 ghost use Rattle.mint.specs.Statuses.{Finished, CutOff, GivenUp, ending};
-ghost use Rattle.mint.specs.Run.{World, IsCheck, IsReply, IsAnswered, sequence_sizes, IsSequenceFor, Does, ReadsInput, IsFinished, IsCutOff, IsGivenUp, LeavesInput};
+ghost use Rattle.mint.specs.Store.{AreLeft};
+ghost use Rattle.mint.specs.Doing.{AllRules, IsDone, IsStopped, status_given_up};
+ghost use Rattle.mint.specs.Run.{World, IsCheck, IsReply, sequence_sizes, IsSequenceFor, Does, ReadsInput, OpensStore, IsFinished, IsCutOff, IsGivenUp, LeavesInput, LeavesStore};
 
-use crate::input::{InputRefused, read_input};
+use crate::causes::Cause;
+use crate::generating::generated_in;
+use crate::input::read_input;
 use crate::sequences::sequence_lines;
 use crate::status::Status;
+use crate::stores::{imported, opened};
 use crate::texts::{USAGE, holds_line};
 use crate::words::{Command, Task, read_words};
 use mt_answer::{outside_line, text};
-use mt_cells::{Bounds, Question, RuleSet, Sizes, Steps};
+use mt_cells::{Bounds, Question, RuleSet, Sizes};
+use mt_feed::Feed;
 use mt_import::MOST_BYTES;
 use mt_io::{Failed, Sink, Source};
+use mt_keeper::Keeper;
 use mt_linear::Order;
 use mt_service::check_text;
 use mt_table::Table;
 use std::alloc::{AllocError, Global};
-use std::marker::Brand;
-use std::sync::ledger::{Blank, Ledger};
 
 /// The most bytes of the input that a check reads: one more than an import text may have.
 pub const MOST_READ: usize = MOST_BYTES + 1;
@@ -88,32 +93,15 @@ pub fn run_command<K: Keeper, R: Source, W: Sink>(
     };
     match done(alloc, command, keeper, feeds, input) {
         Ok(answer) => write_answer(output, answer.status, &answer.text),
-        Err(cause) => given_up(cause),
+        Err(cause) => cause.status(),
     }
 }
 
-// Why a command is given up.
-#[derive(Clone, Copy)]
-enum Cause {
-    Memory,
-    ReadFault,
-    KeeperFault,
-}
-
-// The status of a command that is given up.
-fn given_up(cause: Cause) -> Status {
-    match cause {
-        Cause::Memory => Status::Memory,
-        Cause::ReadFault => Status::ReadFault,
-        Cause::KeeperFault => Status::KeeperFault,
-    }
-}
-
-// A status, and the text that goes with it.
+/// A status, and the text that goes with it.
 #[derive(Drop)]
-struct Answer {
-    status: Status,
-    text: Vec<u8>,
+pub(crate) struct Answer {
+    pub(crate) status: Status,
+    pub(crate) text: Vec<u8>,
 }
 
 // Does the task of a command.
@@ -123,75 +111,55 @@ fn done<K: Keeper, R: Source>(
     keeper: &mut K,
     feeds: &mut Vec<Box<dyn Feed + Send>>,
     input: &mut R,
-) -> Result<Answer, Cause> {
-    let bounds = command.bounds;
+) -> Result<Answer, Cause>
+    requires { (question : Question) → command.task ≡ Task.Ask question → HasText question }
+
+    // Whatever the output tells.
+    ensures answer { IfOk result (λ a. (x y : Option (List ℕ)) → (rules : RuleSet) × AllRules rules
+        × IsDone (λ b. told b) (λ b. failures b) command.bounds rules command.task
+        (record { input = R.left input.old; output = x; records = K.records keeper.old })
+        (record { input = R.left input.new; output = y; records = K.records keeper.new })
+        feeds.old.items feeds.new.items a.status a.text.items) }
+    ensures finished { IfOk result (λ a. ending a.status ≡ Finished) }
+    ensures stopped { IfErr result (λ e. (x y : Option (List ℕ)) → (rules : RuleSet) × AllRules rules
+        × IsStopped (λ b. told b) (λ b. failures b) command.bounds rules command.task
+        (record { input = R.left input.old; output = x; records = K.records keeper.old })
+        (record { input = R.left input.new; output = y; records = K.records keeper.new })
+        feeds.old.items feeds.new.items (status_given_up e)) }
+    ensures most { TakesAtMost MOST_READ (R.left input.old) (R.left input.new) }
+    ensures unread { ¬ ReadsInput command.task → input.new ≡ input.old }
+    ensures unopened { ¬ OpensStore command.task → keeper.new ≡ keeper.old }
+    ensures reads { IsErrOf result Cause.ReadFault → ReadsInput command.task }
+    ensures opens { IsErrOf result Cause.KeeperFault → OpensStore command.task }
+    ensures read_fault { IsErrOf result Cause.ReadFault
+        → Rose (R.faults input.old) (R.faults input.new) }
+    ensures keeper_fault { IsErrOf result Cause.KeeperFault
+        → Rose (K.faults keeper.old) (K.faults keeper.new) }
+{
+    let (bounds, rules) = (command.bounds, RuleSet::all());
     match command.task {
         Task::Check => checked_input(alloc, bounds, input),
-        Task::Ask(question) => answered(alloc, bounds, keeper, &question),
-        Task::Import => imported(alloc, bounds, keeper, feeds, input),
+        Task::Ask(question) => answered(alloc, bounds, rules, keeper, &question),
+        Task::Import => imported(alloc, bounds, rules, keeper, feeds, input),
         Task::Niederreiter { q, m, s } => Ok(sequence_made(alloc, bounds, q, m, s)?),
-        Task::Generate { seed, count } => generated_in(alloc, bounds, keeper, feeds, seed, count),
+        Task::Generate { seed, count } =>
+            generated_in(alloc, bounds, rules, keeper, feeds, seed, count),
     }
 }
 
-// The service over the records by all rules, or the line for why they are refused.
-fn opened<K: Keeper>(
-    alloc: Global,
-    bounds: Bounds,
-    keeper: &mut K,
-) -> Result<Result<Service, Answer>, Cause> {
-    match Service::open(alloc, keeper, bounds, RuleSet::all()) {
-        Ok(service) => Ok(Ok(service)),
-        Err(OpenRefused::KeeperFault) => Err(Cause::KeeperFault),
-        Err(OpenRefused::Memory) => Err(Cause::Memory),
-        Err(refused) => Ok(Err(Answer {
-            status: Status::BadStore,
-            text: refused.line(alloc)?,
-        })),
-    }
-}
-
-// The answer for the text on the input, which is imported.
-fn imported<K: Keeper, R: Source>(
-    alloc: Global,
-    bounds: Bounds,
-    keeper: &mut K,
-    feeds: &mut Vec<Box<dyn Feed + Send>>,
-    input: &mut R,
-) -> Result<Answer, Cause> {
-    match opened(alloc, bounds, keeper)? {
-        Ok(mut service) => import_input(alloc, &mut service, keeper, feeds, input),
-        Err(answer) => Ok(answer),
-    }
-}
-
-// Imports the text on the input into the service.
-fn import_input<K: Keeper, R: Source>(
-    alloc: Global,
-    service: &mut Service,
-    keeper: &mut K,
-    feeds: &mut Vec<Box<dyn Feed + Send>>,
-    input: &mut R,
-) -> Result<Answer, Cause> {
+// The answer for the text on the input.
+fn checked_input<R: Source>(alloc: Global, bounds: Bounds, input: &mut R) -> Result<Answer, Cause>
+    ensures answer { IfOk result (λ a. (text : List ℕ)
+        × IsInput MOST_READ (R.left input.old) (R.left input.new) text
+        × IsCheck bounds text a.status a.text.items) }
+    ensures finished { IfOk result (λ a. ending a.status ≡ Finished) }
+    ensures most { TakesAtMost MOST_READ (R.left input.old) (R.left input.new) }
+    ensures kept { ¬ IsErrOf result Cause.KeeperFault }
+    ensures fault { IsErrOf result Cause.ReadFault
+        → Rose (R.faults input.old) (R.faults input.new) }
+{
     let text = read_input(alloc, input, MOST_READ)?;
-    let outcome = service.import(alloc, keeper, feeds, &text);
-    Ok(Answer {
-        status: status_by(&outcome)?,
-        text: outcome.line(alloc)?,
-    })
-}
-
-// How an import ends that comes to this, or why it is given up.
-fn status_by(outcome: &Outcome) -> Result<Status, Cause> {
-    match outcome {
-        Outcome::Accepted { .. }
-        | Outcome::Withdrawn { .. }
-        | Outcome::Already { .. }
-        | Outcome::AlreadyWithdrawn { .. } => Ok(Status::Ok),
-        Outcome::KeeperFault => Err(Cause::KeeperFault),
-        Outcome::Memory => Err(Cause::Memory),
-        _ => Ok(Status::Refused),
-    }
+    Ok(checked_text(alloc, bounds, &text)?)
 }
 
 // The answer for a text.
@@ -215,10 +183,23 @@ fn checked_text(alloc: Global, bounds: Bounds, text: &[u8]) -> Result<Answer, Al
 fn answered<K: Keeper>(
     alloc: Global,
     bounds: Bounds,
+    rules: RuleSet,
     keeper: &mut K,
     question: &Question,
 ) -> Result<Answer, Cause>
     requires { HasText question.now }
+
+    // Whatever the input and the output tell.
+    ensures answer { IfOk result (λ a. (x y z : Option (List ℕ)) → (E : List Event)
+        × Does bounds rules (Task.Ask question.now)
+        (record { input = x; output = y; records = K.records keeper.old })
+        (record { input = x; output = z; records = K.records keeper.new }) E E
+        a.status a.text.items) }
+    ensures finished { IfOk result (λ a. ending a.status ≡ Finished) }
+    ensures left { AreLeft (K.records keeper.old) (K.records keeper.new) }
+    ensures unread { ¬ IsErrOf result Cause.ReadFault }
+    ensures fault { IsErrOf result Cause.KeeperFault
+        → Rose (K.faults keeper.old) (K.faults keeper.new) }
 {
     if let Some(outside) = question.outside(bounds) {
         return Ok(Answer {
@@ -226,13 +207,24 @@ fn answered<K: Keeper>(
             text: outside_line(alloc, outside)?,
         });
     }
-    match opened(alloc, bounds, keeper)? {
-        Ok(service) => Ok(Answer {
-            status: Status::Ok,
-            text: text(alloc, service.table(), question)?,
-        }),
+    match opened(alloc, bounds, rules, keeper)? {
+        Ok(service) => Ok(answer_over(alloc, service.table(), question)?),
         Err(answer) => Ok(answer),
     }
+}
+
+// The answer to a question over the table.
+fn answer_over(alloc: Global, table: &Table, question: &Question) -> Result<Answer, AllocError>
+    requires inside { IsInside table.now.bounds (sizes_of question.now) }
+    requires has_text { HasText question.now }
+    ensures status { IfOk result (λ a. a.status ≡ Status.Ok) }
+    ensures text { IfOk result (λ a. IsTextFor table.now.bounds table.now.rules table.now.events
+        question.now a.text.items) }
+{
+    Ok(Answer {
+        status: Status::Ok,
+        text: text(alloc, table, question)?,
+    })
 }
 
 // The answer with Niederreiter's matrices, or the line for what is outside the bounds.
@@ -243,8 +235,8 @@ fn sequence_made(
     m: u64,
     s: u64,
 ) -> Result<Answer, AllocError>
-    ensures answer { IfOk result (λ a. IsReply bounds (Some (sequence_sizes q m s))
-        (IsSequenceFor q m s) a.status a.text.items) }
+    ensures answer { IfOk result (λ a. IsReply bounds (Some (sequence_sizes q m s)) a.status
+        a.text.items ((a.status ≡ Status.Ok) × IsSequenceFor q m s a.text.items)) }
     ensures finished { IfOk result (λ a. ending a.status ≡ Finished) }
 {
     let sizes = Sizes {
