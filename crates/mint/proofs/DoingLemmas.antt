@@ -3,13 +3,8 @@ use Rattle.std.proofs.Common.{◌≡◌, ◌≢◌, ℕ, List, [], Option, Some,
 
 use Rattle.mt_keeper.specs.Keeping.{Loads}
 use Rattle.mt_cells.specs.declared.bounds.Bounds.{Bounds}
-use Rattle.mt_cells.specs.declared.asks.Question.{Question}
 use Rattle.mt_cells.specs.declared.rules.RuleSet.{RuleSet}
-use Rattle.mt_cells.specs.Asks.{sizes_of, IsInside}
 use Rattle.mt_derive.specs.declared.events.Event.{Event}
-use Rattle.mt_derive.specs.Events.{entries_of}
-use Rattle.mt_derive.specs.Values.{IsScore}
-use Rattle.mt_answer.specs.Answers.{IsTextFor}
 use Rattle.mt_service.specs.declared.outcomes.Outcome.{Outcome}
 use Rattle.mt_service.specs.declared.opening.OpenRefused.{OpenRefused}
 use Rattle.mt_service.specs.declared.opening.OpenRefused.TheVariants as refused
@@ -26,10 +21,9 @@ use Rattle.mint.specs.declared.status.Status.TheVariants as status
 use Rattle.mint.specs.declared.words.Task.TheVariants as task
 use Rattle.mint.specs.Doing.{status_given_up, IsBadAnswer, IsDone, IsStopped}
 use Rattle.mint.specs.Input.{IsInput}
-use Rattle.mint.specs.Run.{World, Does, AreImported}
+use Rattle.mint.specs.Run.{World}
 use Rattle.mint.specs.Statuses.{status_of}
 use Rattle.mint.specs.Store.{Grows}
-use Rattle.mint.specs.Texts.{generated_text}
 use Rattle.mint.proofs.ChainLemmas.{Records, left_put, put_left, left_both, loads_told, loads_left, grows_on, told_none, told_same}
 
 refused_for : (b : Bounds) (records : List (List ℕ)) (r : OpenRefused) → IsOpening b records (Err r) → r ≢ refused.KeeperFault → r ≢ refused.Memory → AreRefused b records r
@@ -49,8 +43,6 @@ bad_answer b x y records r s text l o k m is line = (
 )
 
 module _ {F : Type 0} (told : F → Option (List ℕ)) (failures : F → ℕ) (b : Bounds) (rules : RuleSet) where
-  -- ---- an import
-
   pub import_bad : (before after : World) (fs : List F) (s : Status) (text : List ℕ) → after.input ≡ before.input → IsBadAnswer b before.records after.records s text
       → IsDone told failures b rules task.Import before after fs fs s text
   import_bad before after fs s text unread bad = ([], [], inl (bad.0, bad.1, refl, unread, bad.2, bad.3), told_none b rules told failures [] fs)
@@ -77,23 +69,3 @@ module _ {F : Type 0} (told : F → Option (List ℕ)) (failures : F → ℕ) (b
     (ap status_given_up is, o, (text, read, step)),
     tell,
   )
-
-  -- ---- generated imports
-
-  pub generate_bad : (seed count : ℕ) (before after : World) (fs : List F) (s : Status) (text : List ℕ) → after.input ≡ before.input → IsBadAnswer b before.records after.records s text
-      → IsDone told failures b rules (task.Generate seed count) before after fs fs s text
-  generate_bad seed count before after fs s text unread bad = ([], [], inl (bad.0, bad.1, refl, unread, bad.2, bad.3), told_none b rules told failures [] fs)
-
-  pub generate_done : (seed count : ℕ) (before after : World) (y : Records) (E M : List Event) (old new : List F) (s : Status) (output : List ℕ)
-      → Grows b before.records y E E → ArePut y after.records E M → AreTold b rules told failures E M old new
-      → ((outcomes : List Outcome) × AreImported b rules seed count E M outcomes × (score : ℕ) × IsScore b rules (entries_of M) score × (output ≡ generated_text outcomes score))
-      → s ≡ status.Ok → IsDone told failures b rules (task.Generate seed count) before after old new s output
-  generate_done seed count before after y E M old new s output grows put tell line is =
-      (E, M, inr (grows_on b before.records y after.records E M grows put, line.0, line.1, line.2, line.3, is, line.4), tell)
-
-  pub generate_stopped : (seed count : ℕ) (before after : World) (y : Records) (E M : List Event) (old new : List F) (s : Status)
-      → Grows b before.records y E E → ArePut y after.records E M → AreTold b rules told failures E M old new
-      → ((n : ℕ) × (n ≤ count) × (outcomes : List Outcome) × AreImported b rules seed n E M outcomes)
-      → IsStopped told failures b rules (task.Generate seed count) before after old new s
-  generate_stopped seed count before after y E M old new s grows put tell part =
-      inr (E, M, grows_on b before.records y after.records E M grows put, part, tell)

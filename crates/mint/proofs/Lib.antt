@@ -1,6 +1,6 @@
 mod ChainLemmas
 mod DoingLemmas
-mod GeneratedLemmas
+mod DoneLemmas
 mod InputLemmas
 mod RunLemmas
 mod WordLemmas

@@ -51,7 +51,6 @@ bounds_read word prefix back m s whole prefix_is back_is small low cut (Some b) 
 pub record IsOther (word : List ℕ) : Type 0 where
   pub check : word ≢ codes "check"
   pub import : word ≢ codes "import"
-  pub generate : word ≢ codes "generate"
   pub table : word ≢ codes "table"
   pub export : word ≢ codes "export"
   pub niederreiter : word ≢ codes "niederreiter"
@@ -60,7 +59,6 @@ pub value_is_other : IsOther (codes "value")
 value_is_other = record {
   check = λ e. let differ = ap (λ (b : List ℕ). get_or b 0 0) e in omega arith;
   import = λ e. let differ = ap (λ (b : List ℕ). get_or b 0 0) e in omega arith;
-  generate = λ e. let differ = ap (λ (b : List ℕ). get_or b 0 0) e in omega arith;
   table = λ e. let differ = ap (λ (b : List ℕ). get_or b 0 0) e in omega arith;
   export = λ e. let differ = ap (λ (b : List ℕ). get_or b 0 0) e in omega arith;
   niederreiter = λ e. let differ = ap (λ (b : List ℕ). get_or b 0 0) e in omega arith;
@@ -70,7 +68,6 @@ pub tree_is_other : IsOther (codes "tree")
 tree_is_other = record {
   check = λ e. let differ = ap (λ (b : List ℕ). get_or b 0 0) e in omega arith;
   import = λ e. let differ = ap (λ (b : List ℕ). get_or b 0 0) e in omega arith;
-  generate = λ e. let differ = ap (λ (b : List ℕ). get_or b 0 0) e in omega arith;
   table = λ e. let differ = ap (λ (b : List ℕ). get_or b 1 0) e in omega arith;
   export = λ e. let differ = ap (λ (b : List ℕ). get_or b 0 0) e in omega arith;
   niederreiter = λ e. let differ = ap (λ (b : List ℕ). get_or b 0 0) e in omega arith;
@@ -80,7 +77,6 @@ pub matrix_is_other : IsOther (codes "matrix")
 matrix_is_other = record {
   check = λ e. let differ = ap (λ (b : List ℕ). get_or b 0 0) e in omega arith;
   import = λ e. let differ = ap (λ (b : List ℕ). get_or b 0 0) e in omega arith;
-  generate = λ e. let differ = ap (λ (b : List ℕ). get_or b 0 0) e in omega arith;
   table = λ e. let differ = ap (λ (b : List ℕ). get_or b 0 0) e in omega arith;
   export = λ e. let differ = ap (λ (b : List ℕ). get_or b 0 0) e in omega arith;
   niederreiter = λ e. let differ = ap (λ (b : List ℕ). get_or b 0 0) e in omega arith;
@@ -91,7 +87,6 @@ pub asks_for_none : (words : List (List ℕ)) (word : List ℕ) (rest : List (Li
     → IsOther word → (t : Task) → ¬ IsTask words t
 asks_for_none words word rest e none other task.Check is = other.check (cc)
 asks_for_none words word rest e none other task.Import is = other.import (cc)
-asks_for_none words word rest e none other (task.Generate seed count) is = let first = is.2.1 in other.generate (cc)
 asks_for_none words word rest e none other (task.Ask (Value a)) is =
     let first = is.1 in let same : rest ≡ is.0 = cc in none a (subst (λ (r : List (List ℕ)). IsAskFor r a) (sym same) is.2)
 asks_for_none words word rest e none other (task.Ask (Tree a)) is =

@@ -3,7 +3,6 @@ pub mod Output
 pub mod Store
 pub mod Run
 pub mod Doing
-pub mod Generating
 pub mod Starts
 pub mod Statuses
 pub mod Texts

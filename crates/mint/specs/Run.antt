@@ -1,5 +1,5 @@
 -- What a command does, and how it ends.
-use Rattle.std.specs.Prelude.{◌≡◌, ℕ, ◌-◌, ◌≤◌, ◌⊎◌, true, List, length, map, All, Option, None, Some, IsSome}
+use Rattle.std.specs.Prelude.{◌≡◌, ℕ, ◌-◌, ◌⊎◌, true, List, Option, None, Some}
 use Rattle.mt_linear.specs.declared.order.Order.{Order}
 use Rattle.mt_linear.specs.Field.{number_of}
 use Rattle.mt_system.specs.Rows.{Matrices, SequenceStrength}
@@ -13,13 +13,9 @@ use Rattle.mt_cells.specs.declared.asks.Part.{Part}
 use Rattle.mt_cells.specs.declared.sizes.Sizes.{Sizes}
 use Rattle.mt_cells.specs.Asks.{sizes_of, IsInside, IsOutside}
 use Rattle.mt_cells.specs.Instances.{has_rule}
-use Rattle.mt_import.specs.Canonical.{canonical_text}
 use Rattle.mt_derive.specs.declared.events.Event.{Event}
-use Rattle.mt_derive.specs.Events.{entries_of}
-use Rattle.mt_derive.specs.Values.{IsScore}
 use Rattle.mt_answer.specs.Answers.{IsTextFor}
 use Rattle.mt_answer.specs.Texts.{outside_line_text}
-use Rattle.mt_gen.specs.Generated.{AreGenerated}
 use Rattle.mt_service.specs.declared.outcomes.Outcome.{Outcome}
 use Rattle.mt_service.specs.declared.opening.OpenRefused.{OpenRefused}
 use Rattle.mt_service.specs.Gate.{Reads}
@@ -36,8 +32,8 @@ use Rattle.mint.specs.declared.words.Command.{Command}
 use Rattle.mint.specs.Input.{IsInput}
 use Rattle.mint.specs.Output.{Wrote, WrotePrefix}
 use Rattle.mint.specs.Statuses.{status_of}
-use Rattle.mint.specs.Store.{AreLeft, IsBadStore, Grows, AreSteps}
-use Rattle.mint.specs.Texts.{usage_text, holds_text, sequence_text, generated_text}
+use Rattle.mint.specs.Store.{AreLeft, IsBadStore, Grows}
+use Rattle.mint.specs.Texts.{usage_text, holds_text, sequence_text}
 use Rattle.mint.specs.Words.{IsCommand}
 
 -- what is outside the program, as far as it tells: the bytes left on the input, those written on the output, and the records of the store
@@ -87,12 +83,6 @@ module _ (b : Bounds) (rules : RuleSet) where
   abbrev pub IsImported : World → World → List Event → List Event → Outcome → Type 0
   IsImported before after E M o = (text : List ℕ) × IsInput MOST_READ before.input after.input text × IsStep b rules E text o M
 
-  -- the first n of the claims of this seed are imported one after the other, each to an end, with these outcomes
-  abbrev pub AreImported : ℕ → ℕ → List Event → List Event → List Outcome → Type 0
-  AreImported seed n E M outcomes =
-      All (λ o. IsSome (status_of o)) outcomes
-      × (claims : List Statement) × (length claims ≡ n) × AreGenerated seed b 1 seed claims × AreSteps b rules E (map canonical_text claims) outcomes M
-
   -- what the task does over a list E of events, which grows to M
   abbrev pub Does : Task → World → World → List Event → List Event → Status → List ℕ → Type 0
   Does task.Check before after E M status output =
@@ -104,14 +94,10 @@ module _ (b : Bounds) (rules : RuleSet) where
       (IsOpened b before after E M status output ((status ≡ Ok) × IsTextFor b rules E question output))
   Does task.Import before after E M status output =
       IsOpened b before after E M status output ((o : Outcome) × IsImported before after E M o × (status_of o ≡ Some status) × (output ≡ outcome_text o))
-  Does (task.Generate seed count) before after E M status output =
-      IsOpened b before after E M status output ((outcomes : List Outcome) × AreImported seed count E M outcomes
-      × (score : ℕ) × IsScore b rules (entries_of M) score × (status ≡ Ok) × (output ≡ generated_text outcomes score))
 
-  -- what it may have done before it was given up: nothing, or an import for whose line there was no memory, or the first of the imports
+  -- what it may have done before it was given up: nothing, or an import for whose line there was no memory
   abbrev pub DoesPart : Task → World → World → List Event → List Event → Status → Type 0
   DoesPart task.Import before after E M status = (status ≡ Memory) × (o : Outcome) × IsImported before after E M o
-  DoesPart (task.Generate seed count) before after E M status = (n : ℕ) × (n ≤ count) × (outcomes : List Outcome) × AreImported seed n E M outcomes
   DoesPart task before after E M status = ⊥
 
 -- ---- how a command ends

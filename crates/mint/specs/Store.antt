@@ -1,12 +1,9 @@
 -- What a command does to the records of its store.
-use Rattle.std.specs.Prelude.{◌≡◌, ℕ, List, [], ◌∷◌, Option}
+use Rattle.std.specs.Prelude.{◌≡◌, ℕ, List, Option}
 use Rattle.mt_io.specs.Told.{WhereTold}
 use Rattle.mt_cells.specs.declared.bounds.Bounds.{Bounds}
-use Rattle.mt_cells.specs.declared.rules.RuleSet.{RuleSet}
 use Rattle.mt_derive.specs.declared.events.Event.{Event}
-use Rattle.mt_service.specs.declared.outcomes.Outcome.{Outcome}
 use Rattle.mt_service.specs.declared.opening.OpenRefused.{OpenRefused}
-use Rattle.mt_service.specs.Steps.{IsStep}
 use Rattle.mt_service.specs.Records.{StandFor, ArePut}
 use Rattle.mt_service.specs.Opening.{AreRefused}
 
@@ -27,9 +24,3 @@ pub record Grows (b : Bounds) (before after : Option (List (List ℕ))) (E M : L
   pub told : WhereTold before after (λ old new. records ≡ old)
   pub stand : StandFor b records E
   pub put : ArePut before after E M
-
--- the texts come one after the other to these outcomes, from the list E on, which grows to M
-abbrev pub AreSteps : Bounds → RuleSet → List Event → List (List ℕ) → List Outcome → List Event → Type 0
-AreSteps b rules E [] [] M = M ≡ E
-AreSteps b rules E (text ∷ texts) (o ∷ outcomes) M = (N : List Event) × IsStep b rules E text o N × AreSteps b rules N texts outcomes M
-AreSteps b rules E texts outcomes M = ⊥

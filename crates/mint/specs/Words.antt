@@ -1,12 +1,11 @@
 -- The words of commands.
-use Rattle.std.specs.Prelude.{◌≡◌, ℕ, ◌^◌, ◌<◌, ◌≤◌, List, [], ◌∷◌, ◌++◌, codes, decimal}
+use Rattle.std.specs.Prelude.{◌≡◌, ℕ, ◌^◌, ◌<◌, List, [], ◌∷◌, ◌++◌, codes, decimal}
 use Rattle.mt_cells.specs.declared.bounds.Bounds.{Bounds}
 use Rattle.mt_cells.specs.declared.asks.Kind.{Kind}
 use Rattle.mt_cells.specs.declared.asks.Kind.TheVariants.{Net, Oa, Ooa, Seq}
 use Rattle.mt_cells.specs.declared.asks.Ask.{Ask}
 use Rattle.mt_cells.specs.declared.asks.Question.TheVariants.{Value, Tree, Matrix, Table, Export}
 use Rattle.mt_cells.specs.Texts.{kind_text}
-use Rattle.mt_derive.specs.declared.imports.TheConstants.{MOST_IMPORTS}
 use Rattle.mint.specs.declared.words.Task.{Task}
 use Rattle.mint.specs.declared.words.Task.TheVariants as task
 use Rattle.mint.specs.declared.words.Command.{Command}
@@ -51,7 +50,6 @@ IsBehind word P words = (rest : List (List ℕ)) × (words ≡ word ∷ rest) ×
 abbrev pub IsTask : List (List ℕ) → Task → Type 0
 IsTask words task.Check = words ≡ codes "check" ∷ []
 IsTask words task.Import = words ≡ codes "import" ∷ []
-IsTask words (task.Generate seed count) = (1 ≤ count) × (count ≤ MOST_IMPORTS) × IsBehind (codes "generate") (λ rest. AreTwo rest seed count) words
 IsTask words (task.Ask (Value a)) = IsBehind (codes "value") (λ rest. IsAskFor rest a) words
 IsTask words (task.Ask (Tree a)) = IsBehind (codes "tree") (λ rest. IsAskFor rest a) words
 IsTask words (task.Ask (Matrix a)) = IsBehind (codes "matrix") (λ rest. IsAskFor rest a) words

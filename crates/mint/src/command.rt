@@ -14,7 +14,6 @@ ghost use Rattle.mint.specs.Doing.{AllRules, IsDone, IsStopped, status_given_up}
 ghost use Rattle.mint.specs.Run.{World, IsCheck, IsReply, sequence_sizes, IsSequenceFor, Does, ReadsInput, OpensStore, IsFinished, IsCutOff, IsGivenUp, LeavesInput, LeavesStore};
 
 use crate::causes::Cause;
-use crate::generating::generated_in;
 use crate::input::read_input;
 use crate::sequences::sequence_lines;
 use crate::status::Status;
@@ -44,9 +43,8 @@ pub const MOST_READ: usize = MOST_BYTES + 1;
 /// the feeds are told of the values that change. `M,S value` and a question write the greatest value
 /// that a derivation has for a cell over the records, `M,S tree` and the same question a derivation
 /// with this value, and `M,S matrix` the generator matrices that it makes, as an import text.
-/// `M,S table` and `M,S export` write the values of many cells. `M,S generate` imports claims that
-/// are drawn at random, and `M,S niederreiter` writes the generator matrices of a sequence, as an
-/// import text. Where a number is outside the bounds, they write the first such number instead, and
+/// `M,S table` and `M,S export` write the values of many cells, and `M,S niederreiter` the generator
+/// matrices of a sequence, as an import text. Where a number is outside the bounds, they write the first such number instead, and
 /// open no store; where the records are refused, they write why. All other words give the usage.
 /// What is written is written once the answer is known.
 pub fn run_command<K: Keeper, R: Source, W: Sink>(
@@ -142,8 +140,6 @@ fn done<K: Keeper, R: Source>(
         Task::Ask(question) => answered(alloc, bounds, rules, keeper, &question),
         Task::Import => imported(alloc, bounds, rules, keeper, feeds, input),
         Task::Niederreiter { q, m, s } => Ok(sequence_made(alloc, bounds, q, m, s)?),
-        Task::Generate { seed, count } =>
-            generated_in(alloc, bounds, rules, keeper, feeds, seed, count),
     }
 }
 

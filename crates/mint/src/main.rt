@@ -5,7 +5,6 @@ mod causes;
 mod command;
 #[cfg(test)]
 mod event_tests;
-mod generating;
 mod input;
 #[cfg(test)]
 mod sequence_tests;

@@ -153,26 +153,6 @@ fn withdrawals_are_kept(rt: HostRuntime) -> Result<(), Fail> {
     assert_runs(&rt, alloc, &mut empty(alloc), &mut Vec::new(alloc), &cases)
 }
 
-#[test]
-fn generated_claims_are_imported_once(rt: HostRuntime) -> Result<(), Fail> {
-    let cases: [Case<'_>; 2] = [
-        (
-            &["1,1", "generate", "7", "3"],
-            b"",
-            Status::Ok,
-            b"generated 3: accepted 3, already 0, refused 0, score 14, tried 0\n",
-        ),
-        (
-            &["1,1", "generate", "7", "3"],
-            b"",
-            Status::Ok,
-            b"generated 3: accepted 0, already 3, refused 0, score 14, tried 0\n",
-        ),
-    ];
-    let alloc = rt.alloc();
-    assert_runs(&rt, alloc, &mut empty(alloc), &mut Vec::new(alloc), &cases)
-}
-
 // The first load fails, and the put of the second import.
 #[test]
 fn a_failing_keeper(rt: HostRuntime) -> Result<(), Fail> {

@@ -7,7 +7,6 @@ ghost use Rattle.mint.specs.declared.words.Command.{Command};
 ghost use Rattle.mint.specs.Words.{bounds_word, IsSizes, IsAskFor, AreTwo, AreThree, IsTask, IsCommand};
 
 use mt_cells::{Ask, Bounds, Kind, Question, plain_number};
-use mt_derive::MOST_IMPORTS;
 
 /// A command, and the bounds of the table.
 #[derive(Clone, Copy, PartialEq, Eq, Debug)]
@@ -27,8 +26,6 @@ pub enum Task {
     Import,
     /// Write Niederreiter's matrices over the field of q elements, of m columns, for s coordinates.
     Niederreiter { q: u64, m: u64, s: u64 },
-    /// Import the first `count` claims that the seed gives.
-    Generate { seed: u64, count: u32 },
 }
 
 /// The command of these words, or `None` where they have no form:
@@ -39,8 +36,7 @@ pub enum Task {
 /// - `M,S table Q M`;
 /// - `M,S export`;
 /// - `M,S import`;
-/// - `M,S niederreiter Q M S`;
-/// - `M,S generate SEED COUNT`, COUNT from 1 to 1,024.
+/// - `M,S niederreiter Q M S`.
 ///
 /// `M,S` are bounds. A number is decimal, without sign and without a zero in front but for `0`
 /// itself, and is below 2^64.
@@ -102,16 +98,6 @@ fn read_task(words: &[String]) -> Option<Task>
         "niederreiter" => {
             let (q, m, s) = read_three(words)?;
             Some(Task::Niederreiter { q, m, s })
-        }
-        "generate" => {
-            let (seed, count) = read_two(words)?;
-            if count < 1 || count > MOST_IMPORTS as u64 {
-                return None;
-            }
-            Some(Task::Generate {
-                seed,
-                count: count as u32,
-            })
         }
         _ => None,
     }

@@ -1,4 +1,5 @@
-use Rattle.std.proofs.Common.{inl, refl, sym, subst}
+use Rattle.std.proofs.Common.{Err, inl, refl, ap, subst}
+use Rattle.mint.specs.declared.causes.Cause.{Cause}
 use Rattle.mint.specs.declared.status.Status.TheVariants.{Words}
 use Rattle.mint.specs.Texts.{usage_text}
 use Rattle.mint.specs.Words.{IsTask}
@@ -42,5 +43,6 @@ returns-in-Ok-clause-cut g c = λ e.
 pub returns-in-Err-clause-given_up : goal.returns-in-Err-clause-given_up
 returns-in-Err-clause-given_up g c = λ e.
     let x = g.W.Sink.written c.args.output.now in
-    run_stopped _ _ _ c.in-Some.command c.in-Some.ensures _ _ _ _ c.in-Err.cause c.status.result c.in-Err.ensures.reads c.in-Err.ensures.opens
+    run_stopped _ _ _ c.in-Some.command c.in-Some.ensures _ _ _ _ c.in-Err.cause c.status.result
+    (λ k. c.in-Err.ensures.reads (ap (λ (z : Cause). Err z) k)) (λ k. c.in-Err.ensures.opens (ap (λ (z : Cause). Err z) k))
     (c.in-Err.ensures.stopped x x) c.status.ensures
