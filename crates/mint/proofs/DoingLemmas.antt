@@ -1,6 +1,5 @@
 -- What a task did, from what its parts did.
-use Rattle.std.proofs.Common.{◌≡◌, ◌≢◌, ℕ, List, [], Option, Some, Ok, Err, ◌⊎◌, inl, inr, refl, ap, ◌≤◌}
-
+use Rattle.std.proofs.Common.{◌≡◌, ◌≢◌, ℕ, List, [], Option, Some, Ok, Err, ◌⊎◌, inl, inr, refl, ap}
 use Rattle.mt_keeper.specs.Keeping.{Loads}
 use Rattle.mt_cells.specs.declared.bounds.Bounds.{Bounds}
 use Rattle.mt_cells.specs.declared.rules.RuleSet.{RuleSet}
@@ -24,7 +23,7 @@ use Rattle.mint.specs.Input.{IsInput}
 use Rattle.mint.specs.Run.{World}
 use Rattle.mint.specs.Statuses.{status_of}
 use Rattle.mint.specs.Store.{Grows}
-use Rattle.mint.proofs.ChainLemmas.{Records, left_put, put_left, left_both, loads_told, loads_left, grows_on, told_none, told_same}
+use Rattle.mint.proofs.ChainLemmas.{Records, put_left, left_both, loads_told, loads_left, grows_on, told_none, told_same}
 
 refused_for : (b : Bounds) (records : List (List ℕ)) (r : OpenRefused) → IsOpening b records (Err r) → r ≢ refused.KeeperFault → r ≢ refused.Memory → AreRefused b records r
 refused_for b records refused.KeeperFault o k m = absurd (k refl)
@@ -52,7 +51,7 @@ module _ {F : Type 0} (told : F → Option (List ℕ)) (failures : F → ℕ) (b
       → IsInput MOST_READ before.input after.input text → IsStep b rules E text o M → status_of o ≡ Some s → output ≡ outcome_text o
       → IsDone told failures b rules task.Import before after old new s output
   import_done before after y E M old new s text output o grows put tell read step is line =
-      (E, M, inr (grows_on b before.records y after.records E M grows put, o, (text, read, step), is, line), tell)
+      (E, M, inr (grows_on b before.records y after.records E M grows put, (o, (text, read, step), is, line)), tell)
 
   pub import_stopped : (before after : World) (y : Records) (E M : List Event) (old new : List F) (e : Cause)
       → Grows b before.records y E E → ArePut y after.records E M → AreTold b rules told failures E M old new

@@ -1,5 +1,5 @@
 -- What each task did, as a case of all tasks.
-use Rattle.std.proofs.Common.{◌≡◌, ℕ, List, [], Option, Some, inl, refl, sym, subst}
+use Rattle.std.proofs.Common.{◌≡◌, ℕ, List, [], Option, Some, refl, sym, subst}
 use Rattle.mt_cells.specs.declared.bounds.Bounds.{Bounds}
 use Rattle.mt_cells.specs.declared.asks.Question.{Question}
 use Rattle.mt_cells.specs.declared.rules.RuleSet.{RuleSet}
@@ -12,7 +12,6 @@ use Rattle.mint.specs.declared.words.Task.TheVariants as task
 use Rattle.mint.specs.Doing.{AllRules, IsDone, IsStopped}
 use Rattle.mint.specs.Input.{IsInput}
 use Rattle.mint.specs.Run.{World, IsCheck, IsReply, sequence_sizes, IsSequenceFor, Does}
-use Rattle.mint.specs.Store.{AreLeft}
 use Rattle.mint.proofs.ChainLemmas.{told_none}
 
 module _ {F : Type 0} (told : F → Option (List ℕ)) (failures : F → ℕ) (b : Bounds) (rules : RuleSet) (all : AllRules rules) (t : Task) where
@@ -32,9 +31,6 @@ module _ {F : Type 0} (told : F → Option (List ℕ)) (failures : F → ℕ) (b
       → IsStopped told failures b rules kind before after old new s → IsPart before after old new s
   stopped_as kind before after old new s is stopped =
       (rules, all, subst (λ (k : Task). IsStopped told failures b rules k before after old new s) (sym is) stopped)
-
-  pub nothing_done : (before after : World) (fs : List F) (s : Status) → AreLeft before.records after.records → IsPart before after fs fs s
-  nothing_done before after fs s left = (rules, all, inl (left, refl))
 
   pub check_done : (before after : World) (fs : List F) (s : Status) (output : List ℕ) → t ≡ task.Check → after.records ≡ before.records
       → ((text : List ℕ) × IsInput MOST_READ before.input after.input text × IsCheck b text s output) → IsWhole before after fs fs s output

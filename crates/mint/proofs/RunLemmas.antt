@@ -1,5 +1,5 @@
 -- How a command ends, from what its task did.
-use Rattle.std.proofs.Common.{◌≡◌, ℕ, List, Option, ◌⊎◌, inl, inr, refl, sym, ap, subst, arith}
+use Rattle.std.proofs.Common.{◌≡◌, ℕ, List, Option, inl, inr, refl, sym, ap, subst, arith}
 use Rattle.mt_cells.specs.declared.rules.RuleSet.{RuleSet}
 use Rattle.mint.specs.declared.causes.Cause.{Cause}
 use Rattle.mint.specs.declared.causes.Cause.TheVariants as cause

@@ -1,5 +1,5 @@
 -- Numbers and questions among words.
-use Rattle.std.proofs.Common.{Bor, ◌≡◌, ◌≢◌, ℕ, ◌+◌, ◌^◌, ◌<◌, ◌≤◌, List, ◌++◌, ◌∷◌, codes, decimal, ap, ap₂, sym, ◌∙◌, subst, get_or, arith}
+use Rattle.std.proofs.Common.{Bor, ◌≡◌, ◌≢◌, ℕ, ◌^◌, ◌<◌, ◌≤◌, List, ◌++◌, ◌∷◌, codes, decimal, ap, ap₂, sym, ◌∙◌, subst, get_or, arith}
 use Rattle.std.specs.Prelude.{Option, None, Some, MatchOption, IsSome, IfSome, ◌↔◌}
 use Rattle.std.specs.Str.Parse.{AllDigits, digits_value}
 use Rattle.std.proofs.lemmas.Bool.{false≢true}

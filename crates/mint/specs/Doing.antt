@@ -1,11 +1,10 @@
 -- Internal: what a task did when it ends, or when it is given up.
-use Rattle.std.specs.Prelude.{◌≡◌, ◌≢◌, ℕ, ◌+◌, ◌-◌, ◌^◌, ◌≤◌, ◌⊎◌, min, List, ◌++◌, map, true, All, Option, IsSome}
+use Rattle.std.specs.Prelude.{◌≡◌, ℕ, ◌⊎◌, List, true, Option}
 use Rattle.mt_cells.specs.declared.bounds.Bounds.{Bounds}
 use Rattle.mt_cells.specs.declared.rules.Rule.{Rule}
 use Rattle.mt_cells.specs.declared.rules.RuleSet.{RuleSet}
 use Rattle.mt_cells.specs.Instances.{has_rule}
 use Rattle.mt_derive.specs.declared.events.Event.{Event}
-use Rattle.mt_service.specs.declared.outcomes.Outcome.{Outcome}
 use Rattle.mt_service.specs.declared.opening.OpenRefused.{OpenRefused}
 use Rattle.mt_service.specs.Telling.{AreTold}
 use Rattle.mt_service.specs.Texts.{open_text}

@@ -13,7 +13,11 @@ use std::sync::ledger::{Blank, Ledger};
 use std::test::Fail;
 
 // The table without events by all rules.
-pub(crate) fn table_of<L: Ledger>(alloc: Global, bounds: Bounds, blank: Blank) -> Result<Table, AllocError>
+pub(crate) fn table_of<L: Ledger>(
+    alloc: Global,
+    bounds: Bounds,
+    blank: Blank,
+) -> Result<Table, AllocError>
     requires name { blank.name ≡ L.name }
     requires parts { blank.parts ≡ L.parts }
     requires some { 0 < L.parts }

@@ -97,12 +97,7 @@ fn imports_are_kept(rt: HostRuntime) -> Result<(), Fail> {
             Status::Refused,
             b"refused: 601080390 choices, more than 4000000\n",
         ),
-        (
-            IMPORT,
-            &wide,
-            Status::Refused,
-            b"refused: m 16 is over 4\n",
-        ),
+        (IMPORT, &wide, Status::Refused, b"refused: m 16 is over 4\n"),
         (
             VALUE,
             b"",
@@ -131,12 +126,7 @@ fn withdrawals_are_kept(rt: HostRuntime) -> Result<(), Fail> {
             Status::Ok,
             b"withdrawn 1 caps7: lowered 5\n",
         ),
-        (
-            IMPORT,
-            WITHDRAW,
-            Status::Ok,
-            b"already withdrawn 1 caps7\n",
-        ),
+        (IMPORT, WITHDRAW, Status::Ok, b"already withdrawn 1 caps7\n"),
         (
             IMPORT,
             &caps7,
@@ -177,7 +167,12 @@ fn bad_records_are_told(rt: HostRuntime) -> Result<(), Fail> {
         records.push(Vec::from_slice(alloc, text)?)?;
     }
     let cases: [Case<'_>; 2] = [
-        (VALUE, b"", Status::BadStore, b"store: record 2: dependent\n"),
+        (
+            VALUE,
+            b"",
+            Status::BadStore,
+            b"store: record 2: dependent\n",
+        ),
         (
             IMPORT,
             ONE,

@@ -42,14 +42,7 @@ fn run_over(
     let words = words(alloc, texts)?;
     let mut keeper = SteadyKeeper::new(Records::new(Vec::new(alloc)));
     let mut feeds = Vec::new(alloc);
-    Ok(run_command(
-        alloc,
-        &words,
-        &mut keeper,
-        &mut feeds,
-        input,
-        output,
-    ))
+    Ok(run_command(alloc, &words, &mut keeper, &mut feeds, input, output))
 }
 
 // The status and the output of a run, the input being given in pieces.
