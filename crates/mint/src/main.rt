@@ -1,6 +1,7 @@
 //! mint: a parameter server for digital nets.
 #![tactic(auto)]
 
+mod causes;
 mod command;
 #[cfg(test)]
 mod event_tests;
@@ -13,6 +14,9 @@ mod served_tests;
 mod start;
 mod status;
 #[cfg(test)]
+mod store_tests;
+mod stores;
+#[cfg(test)]
 mod table_tests;
 #[cfg(test)]
 mod tests;
@@ -21,6 +25,7 @@ mod words;
 
 use command::{run_command, write_answer};
 use mt_io::{StdSink, StdSource};
+use mt_keeper::{Records, SteadyKeeper};
 use start::{Start, start_of};
 use status::Status;
 use std::env;
@@ -47,8 +52,17 @@ fn main(rt: HostRuntime) -> ExitCode {
         Start::Usage => write_answer(&mut output, Status::Words, USAGE),
         Start::Unopened => return ExitCode::from(UNOPENED),
         Start::Command(words) => {
+            let mut keeper = SteadyKeeper::new(Records::new(Vec::new(rt.alloc())));
+            let mut feeds = Vec::new(rt.alloc());
             let mut input = StdSource::new(rt.stdin());
-            run_command(rt.alloc(), words, &mut input, &mut output)
+            run_command(
+                rt.alloc(),
+                words,
+                &mut keeper,
+                &mut feeds,
+                &mut input,
+                &mut output,
+            )
         }
     };
     ExitCode::from(status.number())
