@@ -1,4 +1,4 @@
--- What is outstanding, and what is told and put where nothing is accepted.
+-- What is outstanding, what is told where nothing is accepted, and the happenings of an import.
 use Rattle.std.proofs.Common.{◌≡◌, ◌≢◌, ◌⊎◌, ℕ, ◌+◌, ◌-◌, ◌<◌, ◌≤◌, List, [], ◌∷◌, ◌++◌, length, take, Option, Some, None, Result, Ok, Err, IfOk, MatchResult, inl, inr, refl, sym, ap, ◌∙◌, subst, arith, append-nil}
 use Rattle.std.specs.Prelude.{IfSome, IfNone}
 use Rattle.std.specs.List.{AllZip}
@@ -23,11 +23,7 @@ use Rattle.mt_server.proofs.InterleavingLemmas.{step_behind}
 
 -- ---- the outstanding event
 
-pub caught_up : (b : Bounds) (H A : List Event) → IsBehind b H A → length A ≤ length H → A ≡ H
-caught_up b H A (inl same) h = same
-caught_up b H A (inr (e, follows, is)) h = let l = ap length is in absurd (omega (arith, h, l, length_push H e))
-
-pub outstanding : (b : Bounds) (H A : List Event) (n : ℕ) (x : Event) → IsBehind b H A → length H < length A → n ≡ length A → IsAt A (n - 1) x
+outstanding : (b : Bounds) (H A : List Event) (n : ℕ) (x : Event) → IsBehind b H A → length H < length A → n ≡ length A → IsAt A (n - 1) x
     → Follows b H x × (A ≡ H ++ x ∷ [])
 outstanding b H A n x (inl same) low n_is at = let l = ap length same in absurd (omega (arith, low, l))
 outstanding b H A n x (inr (e, follows, is)) low n_is at =
@@ -79,13 +75,6 @@ step_same b b' rules rules' E E' M M' text o p q e m h =
 
 -- ---- where nothing is accepted
 
-same_records : (records : Option (List (List ℕ))) → WhereTold records records (λ old new. new ≡ old ++ [])
-same_records None = tt
-same_records (Some records) = sym (append-nil records)
-
-pub put_none : (records : Option (List (List ℕ))) (E : List Event) → ArePut records records E E
-put_none records E = ([], sym (append-nil E), same_records records)
-
 told_none : (t : Option (List ℕ)) → IsTold t t []
 told_none None = tt
 told_none (Some bytes) = sym (append-nil bytes)
@@ -105,27 +94,10 @@ pub tell_none : {F : Type 0} (told : F → Option (List ℕ)) (faults : F → �
 tell_none told faults b rules E feeds =
     record { events = []; grown = sym (append-nil E); fare = fare_none told faults b rules E feeds; unchanged = λ h. refl }
 
--- ---- opening
-
-pub loaded_kept : (b : Bounds) (before after : Option (List (List ℕ))) (records : List (List ℕ)) (E : List Event) → Loads {E = Unit {0}} before after (Ok records)
-    → StandFor b records E → IsKept b after E
-loaded_kept b None None records E loads stand = tt
-loaded_kept b None (Some after) records E loads stand = absurd loads
-loaded_kept b (Some before) None records E loads stand = tt
-loaded_kept b (Some before) (Some after) records E loads stand = subst (λ (x : List (List ℕ)). StandFor b x E) (loads.1 ∙ sym loads.0) stand
-
 -- ---- wanting memory
 
 module _ (b : Bounds) (rules : RuleSet) (text : List ℕ) where
-  -- the text came to its outcome, and nothing was published then
-  pub unpublished : (o : Outcome) (A H M : List Event) → H ≡ A → IsStep b rules A text o M → IsUnfinished b rules text A H M H
-  unpublished o A H M same step = go (step_behind b rules A text o M step)
-    where
-      go : IsBehind b A M → IsUnfinished b rules text A H M H
-      go (inl kept) = inl (kept, inl refl)
-      go (inr (e, follows, is)) = inr (same, (e, is), (o, step))
-
-  -- the same, where what was outstanding was published before
+  -- what was outstanding was published, and then the text came to its outcome
   pub unfinished : (o : Outcome) (A H M H' : List Event) → H' ≡ A → IsStep b rules A text o M → IsUnfinished b rules text A H M H'
   unfinished o A H M H' same step = go (step_behind b rules A text o M step)
     where
