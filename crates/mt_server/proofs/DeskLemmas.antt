@@ -1,11 +1,9 @@
 -- What is outstanding, what is told where nothing is accepted, and the happenings of an import.
-use Rattle.std.proofs.Common.{◌≡◌, ◌≢◌, ◌⊎◌, ℕ, ◌+◌, ◌-◌, ◌<◌, ◌≤◌, List, [], ◌∷◌, ◌++◌, length, take, Option, Some, None, Result, Ok, Err, IfOk, MatchResult, inl, inr, refl, sym, ap, ◌∙◌, subst, arith, append-nil}
+use Rattle.std.proofs.Common.{◌≡◌, ◌≢◌, ℕ, ◌+◌, ◌-◌, ◌<◌, List, [], ◌∷◌, ◌++◌, length, Option, Some, None, Result, Ok, Err, IfOk, MatchResult, inl, inr, refl, sym, ap, ◌∙◌, subst, arith, append-nil}
 use Rattle.std.specs.Prelude.{IfSome, IfNone}
 use Rattle.std.specs.List.{AllZip}
 use Rattle.std.proofs.lemmas.List.{length_push}
-use Rattle.mt_io.specs.Told.{WhereTold}
 use Rattle.mt_feed.specs.Faring.{Fares, IsTold, IsToldPrefix}
-use Rattle.mt_keeper.specs.Keeping.{Loads}
 use Rattle.mt_cells.specs.declared.bounds.Bounds.{Bounds}
 use Rattle.mt_cells.specs.declared.rules.RuleSet.{RuleSet}
 use Rattle.mt_derive.specs.declared.events.Event.{Event}
@@ -16,7 +14,7 @@ use Rattle.mt_publish.specs.States.{Publication, FrontState, IsFrontOf}
 use Rattle.mt_service.specs.declared.outcomes.Outcome.{Outcome}
 use Rattle.mt_service.specs.declared.outcomes.Outcome.TheVariants as outcome
 use Rattle.mt_service.specs.Steps.{IsStep}
-use Rattle.mt_service.specs.Records.{StandFor, IsKept, ArePut}
+use Rattle.mt_service.specs.Records.{ArePut}
 use Rattle.mt_service.specs.Telling.{AreTold, AreLines}
 use Rattle.mt_server.specs.Desks.{IsBehind, IsUnfinished, LeadTo, LeadPartly, import_of}
 use Rattle.mt_server.proofs.InterleavingLemmas.{step_behind}

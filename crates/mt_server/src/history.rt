@@ -52,11 +52,7 @@ impl<K: Keeper> Model for History<K> {
 
 impl<K: Keeper> History<K> {
     /// The history of a service and a publisher of its list.
-    pub(crate) fn of(
-        service: Service,
-        keeper: K,
-        publisher: Publisher<Table, Event>,
-    ) -> History<K>
+    pub(crate) fn of(service: Service, keeper: K, publisher: Publisher<Table, Event>) -> History<K>
         requires bounds { publisher.publication.base.bounds ≡ service.bounds }
         requires rules { publisher.publication.base.rules ≡ service.rules }
         requires list { publisher.list ≡ service.events }
@@ -89,11 +85,7 @@ impl<K: Keeper> History<K> {
         let front = self.publisher.front();
         let version = self.service.table().version();
         if front.len() < version {
-            let event = self
-                .service
-                .table()
-                .imports()
-                .event_of(alloc, version)?;
+            let event = self.service.table().imports().event_of(alloc, version)?;
             return self.publisher.publish(rt, event);
         }
         Ok(front)
@@ -237,11 +229,7 @@ pub(crate) fn prepare<K: Keeper>(
 }
 
 // A publication of the table's list.
-fn published(
-    alloc: Global,
-    table: &Table,
-    viewers: u32,
-) -> Result<Opened<Table, Event>, AllocError>
+fn published(alloc: Global, table: &Table, viewers: u32) -> Result<Opened<Table, Event>, AllocError>
     requires { (0 < viewers) × (viewers ≤ 16) }
     ensures base { IfOk result (λ o. (o.publisher.publication.base.bounds ≡ table.now.bounds)
         × (o.publisher.publication.base.rules ≡ table.now.rules)) }

@@ -1,6 +1,5 @@
-use Rattle.std.proofs.Common.{rules, ◌≡◌, ◌≢◌, ◌≤◌, ℕ, ◌∙◌, ap, sym, subst, refl, arith}
+use Rattle.std.proofs.Common.{rules, ◌≡◌, ℕ, ◌∙◌, ap, sym, subst, refl, arith}
 use Rattle.mt_io.specs.Faults.{Rose}
-use Rattle.mt_service.specs.Steps.{IsStep}
 use Rattle.mt_server.proofs.DeskLemmas.{told_same, put_same, step_same, tell_none, unfinished}
 use Rattle.mt_server.proofs.history.History.import.Goals as goal
 
