@@ -18,6 +18,7 @@ use Rattle.mt_service.specs.declared.outcomes.Outcome.{Outcome}
 use Rattle.mt_service.specs.declared.outcomes.Outcome.TheVariants as outcome
 use Rattle.mt_service.specs.Steps.{IsStep, IsAccepted}
 use Rattle.mt_server.specs.Interleavings.{Happening, accept, publish, view, front, learn, State, opening, also_shown, next_state, state_after, outcomes_of, MayCome, AllMayCome, AreSteps, AllAreOneHistory}
+use Rattle.mt_server.specs.Desks.{IsBehind}
 use Rattle.mt_server.proofs.OnceLemmas.{all_once}
 
 -- ---- prefixes
@@ -77,32 +78,29 @@ accepted_follows b E text (Withdraw n) (name, to_withdraw, live) = live
 
 module _ (b : Bounds) (rules : RuleSet) where
   -- a step leaves the list, or appends an event that may follow
-  abbrev Grows : List Event → List Event → Type 0
-  Grows E M = (M ≡ E) ⊎ ((e : Event) × Follows b E e × (M ≡ E ++ e ∷ []))
+  pub step_behind : (E : List Event) (text : List ℕ) (o : Outcome) (M : List Event) → IsStep b rules E text o M → IsBehind b E M
+  step_behind E text (outcome.Accepted n name raised tried) M s = inr (Import s.0, accepted_follows b E text (Import s.0) s.1, s.2.list)
+  step_behind E text (outcome.Withdrawn n name lowered tried) M s = inr (Withdraw n, s.1, s.2.list)
+  step_behind E text outcome.KeeperFault M s = inl s.0
+  step_behind E text outcome.Memory M s = inl s
+  step_behind E text (outcome.Form refused) M s = inl s.0
+  step_behind E text (outcome.NoImport name) M s = inl s.0
+  step_behind E text (outcome.AlreadyWithdrawn n name) M s = inl s.0
+  step_behind E text (outcome.Range name number limit) M s = inl s.0
+  step_behind E text (outcome.TooManyChoices count) M s = inl s.0
+  step_behind E text (outcome.Already n name) M s = inl s.0
+  step_behind E text (outcome.IsWithdrawn n name) M s = inl s.0
+  step_behind E text (outcome.NameTaken n name) M s = inl s.0
+  step_behind E text outcome.Full M s = inl s.0
+  step_behind E text (outcome.Dependent form part choice coefficients) M s = inl s.0
 
-  step_grows : (E : List Event) (text : List ℕ) (o : Outcome) (M : List Event) → IsStep b rules E text o M → Grows E M
-  step_grows E text (outcome.Accepted n name raised tried) M s = inr (Import s.0, accepted_follows b E text (Import s.0) s.1, s.2.list)
-  step_grows E text (outcome.Withdrawn n name lowered tried) M s = inr (Withdraw n, s.1, s.2.list)
-  step_grows E text outcome.KeeperFault M s = inl s.0
-  step_grows E text outcome.Memory M s = inl s
-  step_grows E text (outcome.Form refused) M s = inl s.0
-  step_grows E text (outcome.NoImport name) M s = inl s.0
-  step_grows E text (outcome.AlreadyWithdrawn n name) M s = inl s.0
-  step_grows E text (outcome.Range name number limit) M s = inl s.0
-  step_grows E text (outcome.TooManyChoices count) M s = inl s.0
-  step_grows E text (outcome.Already n name) M s = inl s.0
-  step_grows E text (outcome.IsWithdrawn n name) M s = inl s.0
-  step_grows E text (outcome.NameTaken n name) M s = inl s.0
-  step_grows E text outcome.Full M s = inl s.0
-  step_grows E text (outcome.Dependent form part choice coefficients) M s = inl s.0
+  behind_next : (E M : List Event) → IsBehind b E M → IsNext E M
+  behind_next E M (inl same) = inl same
+  behind_next E M (inr (e, follows, is)) = inr (e, is)
 
-  grown_next : (E M : List Event) → Grows E M → IsNext E M
-  grown_next E M (inl same) = inl same
-  grown_next E M (inr g) = inr (g.0, g.2)
-
-  grown_follow : (E M : List Event) → AllFollow b E → Grows E M → AllFollow b M
-  grown_follow E M all (inl same) = subst (AllFollow b) (sym same) all
-  grown_follow E M all (inr g) = subst (AllFollow b) (sym g.2) (follow_push b E g.0 all g.1)
+  behind_follow : (E M : List Event) → AllFollow b E → IsBehind b E M → AllFollow b M
+  behind_follow E M all (inl same) = subst (AllFollow b) (sym same) all
+  behind_follow E M all (inr (e, follows, is)) = subst (AllFollow b) (sym is) (follow_push b E e all follows)
 
   -- ---- states
 
@@ -128,10 +126,10 @@ module _ (b : Bounds) (rules : RuleSet) where
 
   next_sound : (s : State) (h : Happening) → IsSound s → MayCome b rules s h → IsSound (next_state s h)
   next_sound s (accept text outcome list) k may =
-      let grows : Grows s.accepted list = step_grows s.accepted text outcome list may.1 in
+      let behind : IsBehind b s.accepted list = step_behind s.accepted text outcome list may.1 in
       record {
-        follow = grown_follow s.accepted list k.follow grows;
-        next = subst (λ (xs : List Event). IsNext xs list) may.0 (grown_next s.accepted list grows);
+        follow = behind_follow s.accepted list k.follow behind;
+        next = subst (λ (xs : List Event). IsNext xs list) may.0 (behind_next s.accepted list behind);
         shown = k.shown;
         fronts = k.fronts;
       }

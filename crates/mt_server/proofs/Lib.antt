@@ -1,2 +1,3 @@
 mod OnceLemmas
 mod InterleavingLemmas
+mod DeskLemmas

@@ -1,1 +1,2 @@
 pub mod Interleavings
+pub mod Desks
