@@ -63,7 +63,7 @@ fn imports_are_kept(rt: HostRuntime) -> Result<(), Fail> {
         alloc,
         &[(b"net 2 16 16 0 wide\n", 1), (b"0000000000000000\n", 256)],
     )?;
-    let cases: [Case<'_>; 10] = [
+    let cases: [Case<'_>; 9] = [
         (IMPORT, &caps7, Status::Ok, RAISED),
         (
             VALUE,
@@ -90,12 +90,6 @@ fn imports_are_kept(rt: HostRuntime) -> Result<(), Fail> {
             b"seq 2 2 2 0 twice\n10\n01\n10\n01\n",
             Status::Refused,
             b"refused: part 2 choice 1,1 depends with 1,1\n",
-        ),
-        (
-            &["16,32", "import"],
-            &wide,
-            Status::Refused,
-            b"refused: 601080390 choices, more than 4000000\n",
         ),
         (IMPORT, &wide, Status::Refused, b"refused: m 16 is over 4\n"),
         (
