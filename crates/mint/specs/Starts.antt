@@ -1,6 +1,6 @@
 -- What the words of the command line start.
 use Rattle.std.specs.Prelude.{◌≡◌, ◌≢◌, ℕ, ◌<◌, ◌≤◌, List, ◌∷◌, length, map, string_bytes, codes, Option, None, Some}
-use Rattle.core.specs.Prelude.{Bor}
+use Rattle.std.specs.Borrow.{Bor}
 use Rattle.mint.specs.declared.start.Start.{Start}
 use Rattle.mint.specs.declared.start.Start.TheVariants.{Usage, Unopened, Command}
 
