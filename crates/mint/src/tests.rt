@@ -290,11 +290,14 @@ fn the_store_and_the_feed_are_looked_at(rt: HostRuntime) -> Result<(), Fail> {
     assert!(rt; matches!(start_of(&few), Start::Usage));
     let file = words(alloc, &["mint", "store.db", "-", "4,8", "export"])?;
     assert!(rt; matches!(start_of(&file), Start::Unopened));
-    let memory = words(alloc, &["mint", ":memory:", "-", "4,8", "export"])?;
-    let Start::Command(command) = start_of(&memory) else {
-        return Err("the words start no command")?;
-    };
-    assert_eq!(rt; command.len(), 2);
+    for (feed, path) in [("-", None), ("lines.txt", Some("lines.txt"))] {
+        let memory = words(alloc, &["mint", ":memory:", feed, "4,8", "export"])?;
+        let Start::Command { feed, words } = start_of(&memory) else {
+            return Err("the words start no command")?;
+        };
+        assert_eq!(rt; feed, path);
+        assert_eq!(rt; words.len(), 2);
+    }
     Ok(())
 }
 
