@@ -8,8 +8,6 @@ pub mod laws;
 mod lines;
 mod opening;
 mod outcomes;
-#[cfg(test)]
-mod record_tests;
 mod service;
 #[cfg(test)]
 mod step_tests;
