@@ -9,8 +9,6 @@ mod lines;
 mod opening;
 mod outcomes;
 mod service;
-#[cfg(test)]
-mod step_tests;
 mod telling;
 #[cfg(test)]
 mod tests;
