@@ -1,5 +1,5 @@
 //! A table that takes an import and its withdrawal, and the copies that it gives of them.
-ghost use Rattle.std.specs.Prelude.{◌≡◌, ◌<◌};
+ghost use Rattle.std.specs.Prelude.{◌≡◌, ◌<◌, IfOk};
 
 use crate::tests::{CAPS, text_of};
 use mt_cells::{Bounds, RuleSet, Steps};
@@ -21,6 +21,7 @@ pub(crate) fn table_of<L: Ledger>(
     requires name { blank.name ≡ L.name }
     requires parts { blank.parts ≡ L.parts }
     requires some { 0 < L.parts }
+    ensures { IfOk result (λ t. t.bounds ≡ bounds) }
 {
     let mut steps = Steps::<L>::of(blank);
     Table::new(alloc, bounds, RuleSet::all(), &mut steps)

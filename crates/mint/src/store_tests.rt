@@ -157,9 +157,8 @@ fn a_failing_keeper(rt: HostRuntime) -> Result<(), Fail> {
 fn bad_records_are_told(rt: HostRuntime) -> Result<(), Fail> {
     let alloc = rt.alloc();
     let mut records = Vec::new(alloc);
-    for text in [ONE, TWIN] {
-        records.push(Vec::from_slice(alloc, text)?)?;
-    }
+    records.push(Vec::from_slice(alloc, ONE)?)?;
+    records.push(Vec::from_slice(alloc, TWIN)?)?;
     let cases: [Case<'_>; 2] = [
         (
             VALUE,
