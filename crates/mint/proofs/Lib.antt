@@ -1,3 +1,7 @@
+mod ChainLemmas
+mod DoingLemmas
+mod DoneLemmas
 mod InputLemmas
+mod RunLemmas
 mod WordLemmas
 pub mod SequenceLemmas

@@ -1,5 +1,5 @@
 -- Numbers and questions among words.
-use Rattle.std.proofs.Common.{Bor, ◌≡◌, ◌≢◌, ℕ, ◌+◌, ◌^◌, ◌<◌, ◌≤◌, List, ◌++◌, ◌∷◌, codes, decimal, ap, ap₂, sym, ◌∙◌, subst, arith}
+use Rattle.std.proofs.Common.{Bor, ◌≡◌, ◌≢◌, ℕ, ◌^◌, ◌<◌, ◌≤◌, List, ◌++◌, ◌∷◌, codes, decimal, ap, ap₂, sym, ◌∙◌, subst, get_or, arith}
 use Rattle.std.specs.Prelude.{Option, None, Some, MatchOption, IsSome, IfSome, ◌↔◌}
 use Rattle.std.specs.Str.Parse.{AllDigits, digits_value}
 use Rattle.std.proofs.lemmas.Bool.{false≢true}
@@ -47,21 +47,57 @@ bounds_read word prefix back m s whole prefix_is back_is small low cut None take
 bounds_read word prefix back m s whole prefix_is back_is small low cut (Some b) taken m_is s_is =
     whole ∙ ap₂ (λ (x y : List ℕ). x ++ 44 ∷ y) (prefix_is ∙ ap decimal (sym m_is)) (back_is ∙ ap decimal (sym s_is))
 
--- words whose others are no kind and sizes, and whose first is none of these four, ask for no task
+-- the word is none of those with which other tasks begin
+pub record IsOther (word : List ℕ) : Type 0 where
+  pub check : word ≢ codes "check"
+  pub import : word ≢ codes "import"
+  pub table : word ≢ codes "table"
+  pub export : word ≢ codes "export"
+  pub niederreiter : word ≢ codes "niederreiter"
+
+pub value_is_other : IsOther (codes "value")
+value_is_other = record {
+  check = λ e. let differ = ap (λ (b : List ℕ). get_or b 0 0) e in omega arith;
+  import = λ e. let differ = ap (λ (b : List ℕ). get_or b 0 0) e in omega arith;
+  table = λ e. let differ = ap (λ (b : List ℕ). get_or b 0 0) e in omega arith;
+  export = λ e. let differ = ap (λ (b : List ℕ). get_or b 0 0) e in omega arith;
+  niederreiter = λ e. let differ = ap (λ (b : List ℕ). get_or b 0 0) e in omega arith;
+}
+
+pub tree_is_other : IsOther (codes "tree")
+tree_is_other = record {
+  check = λ e. let differ = ap (λ (b : List ℕ). get_or b 0 0) e in omega arith;
+  import = λ e. let differ = ap (λ (b : List ℕ). get_or b 0 0) e in omega arith;
+  table = λ e. let differ = ap (λ (b : List ℕ). get_or b 1 0) e in omega arith;
+  export = λ e. let differ = ap (λ (b : List ℕ). get_or b 0 0) e in omega arith;
+  niederreiter = λ e. let differ = ap (λ (b : List ℕ). get_or b 0 0) e in omega arith;
+}
+
+pub matrix_is_other : IsOther (codes "matrix")
+matrix_is_other = record {
+  check = λ e. let differ = ap (λ (b : List ℕ). get_or b 0 0) e in omega arith;
+  import = λ e. let differ = ap (λ (b : List ℕ). get_or b 0 0) e in omega arith;
+  table = λ e. let differ = ap (λ (b : List ℕ). get_or b 0 0) e in omega arith;
+  export = λ e. let differ = ap (λ (b : List ℕ). get_or b 0 0) e in omega arith;
+  niederreiter = λ e. let differ = ap (λ (b : List ℕ). get_or b 0 0) e in omega arith;
+}
+
+-- words whose others are no kind and sizes, and whose first is no other task's, ask for no task
 pub asks_for_none : (words : List (List ℕ)) (word : List ℕ) (rest : List (List ℕ)) → words ≡ word ∷ rest → ((a : Ask) → ¬ IsAskFor rest a)
-    → word ≢ codes "check" → word ≢ codes "table" → word ≢ codes "export" → word ≢ codes "niederreiter" → (t : Task) → ¬ IsTask words t
-asks_for_none words word rest e none check table export niederreiter task.Check is = check (cc)
-asks_for_none words word rest e none check table export niederreiter (task.Ask (Value a)) is =
+    → IsOther word → (t : Task) → ¬ IsTask words t
+asks_for_none words word rest e none other task.Check is = other.check (cc)
+asks_for_none words word rest e none other task.Import is = other.import (cc)
+asks_for_none words word rest e none other (task.Ask (Value a)) is =
     let first = is.1 in let same : rest ≡ is.0 = cc in none a (subst (λ (r : List (List ℕ)). IsAskFor r a) (sym same) is.2)
-asks_for_none words word rest e none check table export niederreiter (task.Ask (Tree a)) is =
+asks_for_none words word rest e none other (task.Ask (Tree a)) is =
     let first = is.1 in let same : rest ≡ is.0 = cc in none a (subst (λ (r : List (List ℕ)). IsAskFor r a) (sym same) is.2)
-asks_for_none words word rest e none check table export niederreiter (task.Ask (Matrix a)) is =
+asks_for_none words word rest e none other (task.Ask (Matrix a)) is =
     let first = is.1 in let same : rest ≡ is.0 = cc in none a (subst (λ (r : List (List ℕ)). IsAskFor r a) (sym same) is.2)
-asks_for_none words word rest e none check table export niederreiter (task.Ask (Table q m)) is = let first = is.1 in table (cc)
-asks_for_none words word rest e none check table export niederreiter (task.Ask Export) is = export (cc)
-asks_for_none words word rest e none check table export niederreiter (task.Ask (LeastM q s k)) is = is
-asks_for_none words word rest e none check table export niederreiter (task.Ask Version) is = is
-asks_for_none words word rest e none check table export niederreiter (task.Niederreiter q m s) is = let first = is.1 in niederreiter (cc)
+asks_for_none words word rest e none other (task.Ask (Table q m)) is = let first = is.1 in other.table (cc)
+asks_for_none words word rest e none other (task.Ask Export) is = other.export (cc)
+asks_for_none words word rest e none other (task.Ask (LeastM q s k)) is = is
+asks_for_none words word rest e none other (task.Ask Version) is = is
+asks_for_none words word rest e none other (task.Niederreiter q m s) is = let first = is.1 in other.niederreiter (cc)
 
 -- a question that words ask for has a text
 pub asked_has_text : (words : List (List ℕ)) (question : Question) → IsTask words (task.Ask question) → HasText question

@@ -1,6 +1,8 @@
 pub mod Input
 pub mod Output
+pub mod Store
 pub mod Run
+pub mod Doing
 pub mod Starts
 pub mod Statuses
 pub mod Texts

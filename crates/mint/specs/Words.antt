@@ -2,7 +2,7 @@
 use Rattle.std.specs.Prelude.{◌≡◌, ℕ, ◌^◌, ◌<◌, List, [], ◌∷◌, ◌++◌, codes, decimal}
 use Rattle.mt_cells.specs.declared.bounds.Bounds.{Bounds}
 use Rattle.mt_cells.specs.declared.asks.Kind.{Kind}
-use Rattle.mt_cells.specs.declared.asks.Kind.TheVariants.{Net, Oa, Ooa, Seq}
+use Rattle.mt_cells.specs.declared.asks.Kind.TheVariants.{Ooa}
 use Rattle.mt_cells.specs.declared.asks.Ask.{Ask}
 use Rattle.mt_cells.specs.declared.asks.Question.TheVariants.{Value, Tree, Matrix, Table, Export}
 use Rattle.mt_cells.specs.Texts.{kind_text}
@@ -49,6 +49,7 @@ IsBehind word P words = (rest : List (List ℕ)) × (words ≡ word ∷ rest) ×
 -- the words behind the bounds ask for this task
 abbrev pub IsTask : List (List ℕ) → Task → Type 0
 IsTask words task.Check = words ≡ codes "check" ∷ []
+IsTask words task.Import = words ≡ codes "import" ∷ []
 IsTask words (task.Ask (Value a)) = IsBehind (codes "value") (λ rest. IsAskFor rest a) words
 IsTask words (task.Ask (Tree a)) = IsBehind (codes "tree") (λ rest. IsAskFor rest a) words
 IsTask words (task.Ask (Matrix a)) = IsBehind (codes "matrix") (λ rest. IsAskFor rest a) words

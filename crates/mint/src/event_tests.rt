@@ -1,17 +1,31 @@
 //! A table that takes an import and its withdrawal, and the copies that it gives of them.
-ghost use Rattle.std.specs.Prelude.{◌≡◌, ◌<◌};
+ghost use Rattle.std.specs.Prelude.{◌≡◌, ◌<◌, IfOk};
 
-use crate::command::table_of;
 use crate::tests::{CAPS, text_of};
-use mt_cells::{Bounds, Steps};
+use mt_cells::{Bounds, RuleSet, Steps};
 use mt_derive::{Event, Imports};
 use mt_import::print_import;
 use mt_service::check_text;
 use mt_table::Table;
-use std::alloc::Global;
+use std::alloc::{AllocError, Global};
 use std::marker::Brand;
 use std::sync::ledger::{Blank, Ledger};
 use std::test::Fail;
+
+// The table without events by all rules.
+pub(crate) fn table_of<L: Ledger>(
+    alloc: Global,
+    bounds: Bounds,
+    blank: Blank,
+) -> Result<Table, AllocError>
+    requires name { blank.name ≡ L.name }
+    requires parts { blank.parts ≡ L.parts }
+    requires some { 0 < L.parts }
+    ensures { IfOk result (λ t. t.bounds ≡ bounds) }
+{
+    let mut steps = Steps::<L>::of(blank);
+    Table::new(alloc, bounds, RuleSet::all(), &mut steps)
+}
 
 // Applies the event, where it fits.
 fn apply<L: Ledger>(table: &mut Table, event: &Event, blank: Blank) -> Result<u32, Fail>

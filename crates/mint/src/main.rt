@@ -1,6 +1,7 @@
 //! mint: a parameter server for digital nets.
 #![tactic(auto)]
 
+mod causes;
 mod command;
 #[cfg(test)]
 mod event_tests;
@@ -13,6 +14,9 @@ mod served_tests;
 mod start;
 mod status;
 #[cfg(test)]
+mod store_tests;
+mod stores;
+#[cfg(test)]
 mod table_tests;
 #[cfg(test)]
 mod tests;
@@ -20,10 +24,13 @@ mod texts;
 mod words;
 
 use command::{run_command, write_answer};
-use mt_io::{StdSink, StdSource};
+use mt_feed::{Feed, LinesFeed};
+use mt_io::{Sink, StdSink, StdSource};
+use mt_keeper::{Records, SteadyKeeper};
 use start::{Start, start_of};
 use status::Status;
 use std::env;
+use std::fs::{File, OpenOptions};
 use std::io::ErrorKind;
 use std::process::ExitCode;
 use texts::USAGE;
@@ -43,13 +50,52 @@ fn main(rt: HostRuntime) -> ExitCode {
     let Ok(words) = words.collect::<Vec<String>>(rt.alloc()) else {
         return ExitCode::from(Status::Memory.number());
     };
-    let status = match start_of(&words) {
-        Start::Usage => write_answer(&mut output, Status::Words, USAGE),
-        Start::Unopened => return ExitCode::from(UNOPENED),
-        Start::Command(words) => {
-            let mut input = StdSource::new(rt.stdin());
-            run_command(rt.alloc(), words, &mut input, &mut output)
+    ExitCode::from(match start_of(&words) {
+        Start::Usage => write_answer(&mut output, Status::Words, USAGE).number(),
+        Start::Unopened => UNOPENED,
+        Start::Command { feed, words } => with_feed(&rt, feed, words, &mut output),
+    })
+}
+
+// Opens the feed, and runs the command over it and a store in memory.
+fn with_feed<W: Sink>(
+    rt: &HostRuntime,
+    feed: Option<&str>,
+    words: &[String],
+    output: &mut W,
+) -> u8 {
+    let mut feeds: Vec<Box<dyn Feed + Send>> = Vec::new(rt.alloc());
+    if let Some(path) = feed {
+        let file = match open_feed(rt, path) {
+            Ok(file) => file,
+            Err(status) => return status,
+        };
+        let Ok(lines) = Box::new(rt.alloc(), LinesFeed::new(StdSink::new(file))) else {
+            return Status::Memory.number();
+        };
+        let lines: Box<dyn Feed + Send> = lines;
+        if feeds.push(lines).is_err() {
+            return Status::Memory.number();
         }
-    };
-    ExitCode::from(status.number())
+    }
+    let mut keeper = SteadyKeeper::new(Records::new(Vec::new(rt.alloc())));
+    let mut input = StdSource::new(rt.stdin());
+    run_command(
+        rt.alloc(),
+        words,
+        &mut keeper,
+        &mut feeds,
+        &mut input,
+        output,
+    )
+    .number()
+}
+
+// The file at the path, to whose end lines are written, or the status where it cannot be opened.
+fn open_feed(rt: &HostRuntime, path: &str) -> Result<File, u8> {
+    match OpenOptions::new().append(true).create(true).open(rt, path) {
+        Ok(file) => Ok(file),
+        Err(error) if error.kind() == ErrorKind::OutOfMemory => Err(Status::Memory.number()),
+        Err(_) => Err(UNOPENED),
+    }
 }

@@ -1,5 +1,5 @@
 //! Derivations and generator matrices that are served.
-use crate::command::table_of;
+use crate::event_tests::table_of;
 use crate::status::Status;
 use crate::tests::assert_answers;
 use mt_answer::text;

@@ -17,6 +17,10 @@ pub enum Status {
     ReadFault,
     /// The output failed. A prefix of the text was written.
     WriteFault,
+    /// The keeper of the records failed. Nothing was written.
+    KeeperFault,
+    /// The records of the store are refused.
+    BadStore,
     /// The question is outside the bounds.
     Outside,
 }
@@ -33,6 +37,8 @@ impl Status {
             Status::Refused => 3,
             Status::ReadFault => 4,
             Status::WriteFault => 5,
+            Status::KeeperFault => 6,
+            Status::BadStore => 7,
             Status::Outside => 8,
         }
     }

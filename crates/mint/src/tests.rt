@@ -2,14 +2,15 @@
 use crate::command::run_command;
 use crate::start::{Start, start_of};
 use crate::status::Status;
-use mt_io::{MemorySink, MemorySource, SteadySink, SteadySource};
+use mt_io::{MemorySink, MemorySource, Sink, Source, SteadySink, SteadySource};
+use mt_keeper::{Records, SteadyKeeper};
 use std::alloc::{AllocError, Global};
 use std::process::Abort;
 use std::test::Fail;
 
-const ONE: &[u8] = b"ooa 2 2 1 1 2 one\n10\n";
+pub(crate) const ONE: &[u8] = b"ooa 2 2 1 1 2 one\n10\n";
 
-const TWIN: &[u8] = b"ooa 2 2 2 2 2 twin\n10\n01\n10\n01\n";
+pub(crate) const TWIN: &[u8] = b"ooa 2 2 2 2 2 twin\n10\n01\n10\n01\n";
 
 const SAME: &[u8] = b"ooa 3 2 2 1 2 same\n12\n12\n";
 
@@ -23,12 +24,25 @@ const NO_HEADER: &[u8] = b"refused: line 1 is no header\n";
 
 const NO_ROW: &[u8] = b"refused: line 2 is no row\n";
 
-fn words(alloc: Global, texts: &[&str]) -> Result<Vec<String>, AllocError> {
+pub(crate) fn words(alloc: Global, texts: &[&str]) -> Result<Vec<String>, AllocError> {
     let mut words = Vec::new(alloc);
     for text in texts {
         words.push(String::from_str(alloc, text)?)?;
     }
     Ok(words)
+}
+
+// Runs the words over a store in memory without records, with no feed.
+fn run_over(
+    alloc: Global,
+    texts: &[&str],
+    input: &mut impl Source,
+    output: &mut impl Sink,
+) -> Result<Status, AllocError> {
+    let words = words(alloc, texts)?;
+    let mut keeper = SteadyKeeper::new(Records::new(Vec::new(alloc)));
+    let mut feeds = Vec::new(alloc);
+    Ok(run_command(alloc, &words, &mut keeper, &mut feeds, input, output))
 }
 
 // The status and the output of a run, the input being given in pieces.
@@ -38,10 +52,9 @@ pub(crate) fn run(
     text: &[u8],
     piece: usize,
 ) -> Result<(Status, Vec<u8>), AllocError> {
-    let words = words(alloc, texts)?;
     let mut input = SteadySource::new(Vec::from_slice(alloc, text)?, piece.max(1));
     let mut output = SteadySink::new(alloc, 4096)?;
-    let status = run_command(alloc, &words, &mut input, &mut output);
+    let status = run_over(alloc, texts, &mut input, &mut output)?;
     Ok((status, Vec::from_slice(alloc, output.bytes())?))
 }
 
@@ -277,11 +290,14 @@ fn the_store_and_the_feed_are_looked_at(rt: HostRuntime) -> Result<(), Fail> {
     assert!(rt; matches!(start_of(&few), Start::Usage));
     let file = words(alloc, &["mint", "store.db", "-", "4,8", "export"])?;
     assert!(rt; matches!(start_of(&file), Start::Unopened));
-    let memory = words(alloc, &["mint", ":memory:", "-", "4,8", "export"])?;
-    let Start::Command(command) = start_of(&memory) else {
-        return Err("the words start no command")?;
-    };
-    assert_eq!(rt; command.len(), 2);
+    for (feed, path) in [("-", None), ("lines.txt", Some("lines.txt"))] {
+        let memory = words(alloc, &["mint", ":memory:", feed, "4,8", "export"])?;
+        let Start::Command { feed, words } = start_of(&memory) else {
+            return Err("the words start no command")?;
+        };
+        assert_eq!(rt; feed, path);
+        assert_eq!(rt; words.len(), 2);
+    }
     Ok(())
 }
 
@@ -289,7 +305,6 @@ fn the_store_and_the_feed_are_looked_at(rt: HostRuntime) -> Result<(), Fail> {
 fn failing_input_writes_nothing(rt: HostRuntime) -> Result<(), Fail> {
     let alloc = rt.alloc();
     for call in 1..4u32 {
-        let words = words(alloc, &["16,32", "check"])?;
         let mut input = MemorySource::new(
             Vec::from_slice(alloc, ONE)?,
             10,
@@ -297,7 +312,7 @@ fn failing_input_writes_nothing(rt: HostRuntime) -> Result<(), Fail> {
         );
         let mut output = MemorySink::new(alloc, 200, Vec::new(alloc), 0)?;
         assert_eq!(rt;
-            run_command(alloc, &words, &mut input, &mut output),
+            run_over(alloc, &["16,32", "check"], &mut input, &mut output)?,
             Status::ReadFault
         );
         assert_eq!(rt; output.bytes(), b"".as_slice());
@@ -309,11 +324,10 @@ fn failing_input_writes_nothing(rt: HostRuntime) -> Result<(), Fail> {
 fn failing_output_has_a_prefix(rt: HostRuntime) -> Result<(), Fail> {
     let alloc = rt.alloc();
     for (text, prefix) in [(ONE, b"hol".as_slice()), (TWIN, b"ref")] {
-        let words = words(alloc, &["16,32", "check"])?;
         let mut input = MemorySource::new(Vec::from_slice(alloc, text)?, 100, Vec::new(alloc));
         let mut output = MemorySink::new(alloc, 200, Vec::from_slice(alloc, &[1])?, 3)?;
         assert_eq!(rt;
-            run_command(alloc, &words, &mut input, &mut output),
+            run_over(alloc, &["16,32", "check"], &mut input, &mut output)?,
             Status::WriteFault
         );
         assert_eq!(rt; output.bytes(), prefix);

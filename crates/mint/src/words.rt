@@ -22,6 +22,8 @@ pub enum Task {
     Check,
     /// Answer a question.
     Ask(Question),
+    /// Import one text from the input: an import text, or a withdrawal text.
+    Import,
     /// Write Niederreiter's matrices over the field of q elements, of m columns, for s coordinates.
     Niederreiter { q: u64, m: u64, s: u64 },
 }
@@ -33,6 +35,7 @@ pub enum Task {
 /// - the same with `tree` or `matrix` in place of `value`;
 /// - `M,S table Q M`;
 /// - `M,S export`;
+/// - `M,S import`;
 /// - `M,S niederreiter Q M S`.
 ///
 /// `M,S` are bounds. A number is decimal, without sign and without a zero in front but for `0`
@@ -87,6 +90,10 @@ fn read_task(words: &[String]) -> Option<Task>
         "export" => {
             at_end(words)?;
             Some(Task::Ask(Question::Export))
+        }
+        "import" => {
+            at_end(words)?;
+            Some(Task::Import)
         }
         "niederreiter" => {
             let (q, m, s) = read_three(words)?;

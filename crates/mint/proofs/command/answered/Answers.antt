@@ -1,13 +1,7 @@
-use Rattle.std.proofs.Common.{List, inr, refl, subst}
-use Rattle.mt_derive.specs.declared.events.Event.{Event}
-use Rattle.mt_cells.specs.declared.bounds.Bounds.{Bounds}
-use Rattle.mt_answer.specs.Answers.{IsTextFor}
+use Rattle.std.proofs.Common.{[], inl, inr, refl}
 use Rattle.mint.proofs.command.answered.Goals as goal
 
-pub returns-clause-answer : goal.returns-clause-answer
-returns-clause-answer c =
-    let table = c.in_ok-table.table in
-    let question = c.args.question.now in
-    let text = c.in_ok-text.field-0.items in
-    let here = subst (λ (b : Bounds). IsTextFor b table.rules table.events question text) c.in_ok-table.ensures.bounds c.in_ok-text.ensures in
-    inr (c.in_default.ensures, refl, (table.rules, c.in_ok-table.ensures.rules, subst (λ (E : List Event). IsTextFor c.args.bounds table.rules E question text) c.in_ok-table.ensures.events here))
+pub returns-in-Err-clause-answer : goal.returns-in-Err-clause-answer
+returns-in-Err-clause-answer g c = λ x y z.
+    let bad = rw c.in-Err.is at c.in_ok-service.ensures.bad in
+    ([], (refl, c.in_ok-service.ensures.left, inr (c.in_default.ensures, inl (bad.0, bad.1, refl, refl, bad.2, bad.3))))

@@ -1,0 +1,70 @@
+-- What a task did, from what its parts did.
+use Rattle.std.proofs.Common.{◌≡◌, ◌≢◌, ℕ, List, [], Option, Some, Ok, Err, ◌⊎◌, inl, inr, refl, ap}
+use Rattle.mt_keeper.specs.Keeping.{Loads}
+use Rattle.mt_cells.specs.declared.bounds.Bounds.{Bounds}
+use Rattle.mt_cells.specs.declared.rules.RuleSet.{RuleSet}
+use Rattle.mt_derive.specs.declared.events.Event.{Event}
+use Rattle.mt_service.specs.declared.outcomes.Outcome.{Outcome}
+use Rattle.mt_service.specs.declared.opening.OpenRefused.{OpenRefused}
+use Rattle.mt_service.specs.declared.opening.OpenRefused.TheVariants as refused
+use Rattle.mt_service.specs.Opening.{IsOpening, AreRefused}
+use Rattle.mt_service.specs.Records.{ArePut}
+use Rattle.mt_service.specs.Steps.{IsStep}
+use Rattle.mt_service.specs.Telling.{AreTold}
+use Rattle.mt_service.specs.Texts.{open_text, outcome_text}
+use Rattle.mint.specs.declared.causes.Cause.{Cause}
+use Rattle.mint.specs.declared.causes.Cause.TheVariants as cause
+use Rattle.mint.specs.declared.command.TheConstants.{MOST_READ}
+use Rattle.mint.specs.declared.status.Status.{Status}
+use Rattle.mint.specs.declared.status.Status.TheVariants as status
+use Rattle.mint.specs.declared.words.Task.TheVariants as task
+use Rattle.mint.specs.Doing.{status_given_up, IsBadAnswer, IsDone, IsStopped}
+use Rattle.mint.specs.Input.{IsInput}
+use Rattle.mint.specs.Run.{World}
+use Rattle.mint.specs.Statuses.{status_of}
+use Rattle.mint.specs.Store.{Grows}
+use Rattle.mint.proofs.ChainLemmas.{Records, put_left, left_both, loads_told, loads_left, grows_on, told_none, told_same}
+
+refused_for : (b : Bounds) (records : List (List ℕ)) (r : OpenRefused) → IsOpening b records (Err r) → r ≢ refused.KeeperFault → r ≢ refused.Memory → AreRefused b records r
+refused_for b records refused.KeeperFault o k m = absurd (k refl)
+refused_for b records refused.Memory o k m = absurd (m refl)
+refused_for b records (refused.TooMany n) o k m = o
+refused_for b records (refused.BadRecord n w) o k m = o
+
+-- the line for records that are refused
+pub bad_answer : (b : Bounds) (x y : Records) (records : List (List ℕ)) (r : OpenRefused) (s : Status) (text : List ℕ) → Loads {E = Unit {0}} x y (Ok records)
+    → IsOpening b records (Err r) → r ≢ refused.KeeperFault → r ≢ refused.Memory → s ≡ status.BadStore → text ≡ open_text r → IsBadAnswer b x y s text
+bad_answer b x y records r s text l o k m is line = (
+  r,
+  record { records = records; told = loads_told x y records l; refused = refused_for b records r o k m; left = loads_left x y records l },
+  is,
+  line,
+)
+
+module _ {F : Type 0} (told : F → Option (List ℕ)) (failures : F → ℕ) (b : Bounds) (rules : RuleSet) where
+  pub import_bad : (before after : World) (fs : List F) (s : Status) (text : List ℕ) → after.input ≡ before.input → IsBadAnswer b before.records after.records s text
+      → IsDone told failures b rules task.Import before after fs fs s text
+  import_bad before after fs s text unread bad = ([], [], inl (bad.0, bad.1, refl, unread, bad.2, bad.3), told_none b rules told failures [] fs)
+
+  pub import_done : (before after : World) (y : Records) (E M : List Event) (old new : List F) (s : Status) (text output : List ℕ) (o : Outcome)
+      → Grows b before.records y E E → ArePut y after.records E M → AreTold b rules told failures E M old new
+      → IsInput MOST_READ before.input after.input text → IsStep b rules E text o M → status_of o ≡ Some s → output ≡ outcome_text o
+      → IsDone told failures b rules task.Import before after old new s output
+  import_done before after y E M old new s text output o grows put tell read step is line =
+      (E, M, inr (grows_on b before.records y after.records E M grows put, (o, (text, read, step), is, line)), tell)
+
+  pub import_stopped : (before after : World) (y : Records) (E M : List Event) (old new : List F) (e : Cause)
+      → Grows b before.records y E E → ArePut y after.records E M → AreTold b rules told failures E M old new
+      → ((M ≡ E) ⊎ ((e ≡ cause.Memory) × (text : List ℕ) × IsInput MOST_READ before.input after.input text × (o : Outcome) × IsStep b rules E text o M))
+      → IsStopped told failures b rules task.Import before after old new (status_given_up e)
+  import_stopped before after y E M old new e grows put tell (inl m) = inl (
+    left_both before.records y after.records (put_left before.records y E E grows.put refl) (put_left y after.records E M put m),
+    told_same b rules told failures E M old new tell m,
+  )
+  import_stopped before after y E M old new e grows put tell (inr (is, text, read, o, step)) = inr (
+    E,
+    M,
+    grows_on b before.records y after.records E M grows put,
+    (ap status_given_up is, o, (text, read, step)),
+    tell,
+  )

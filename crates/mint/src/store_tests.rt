@@ -1,0 +1,241 @@
+//! Commands one after the other over one store.
+use crate::command::run_command;
+use crate::status::Status;
+use crate::tests::{CAPS, ONE, TWIN, text_of, words};
+use mt_feed::{Feed, ListFeed};
+use mt_io::{MemorySink, MemorySource, SteadySink, SteadySource};
+use mt_keeper::{Keeper, MemoryKeeper, Records, SteadyKeeper};
+use std::alloc::{AllocError, Global};
+use std::process::Abort;
+use std::test::Fail;
+
+const IMPORT: &[&str] = &["4,8", "import"];
+
+const VALUE: &[&str] = &["4,8", "value", "net", "2", "4", "7"];
+
+const WITHDRAW: &[u8] = b"withdraw caps7\n";
+
+const RAISED: &[u8] = b"accepted 1 caps7: raised 5\n";
+
+// The words of a command, its input, and its status and output.
+type Case<'a> = (&'a [&'static str], &'a [u8], Status, &'a [u8]);
+
+fn caps7(alloc: Global) -> Result<Vec<u8>, AllocError> {
+    text_of(alloc, &[(b"net 2 4 7 1 caps7\n", 1), (CAPS, 1)])
+}
+
+fn empty(alloc: Global) -> SteadyKeeper {
+    SteadyKeeper::new(Records::new(Vec::new(alloc)))
+}
+
+// Runs the commands one after the other.
+fn assert_runs(
+    rt: &impl Abort,
+    alloc: Global,
+    keeper: &mut impl Keeper,
+    feeds: &mut Vec<Box<dyn Feed + Send>>,
+    cases: &[Case<'_>],
+) -> Result<(), Fail> {
+    for (texts, text, status, line) in cases {
+        let words = words(alloc, texts)?;
+        let mut input = SteadySource::new(Vec::from_slice(alloc, text)?, 4096);
+        let mut output = SteadySink::new(alloc, 4096)?;
+        let answer = run_command(alloc, &words, keeper, feeds, &mut input, &mut output);
+        assert_eq!(rt; answer, *status);
+        assert_eq!(rt; output.bytes(), *line);
+    }
+    Ok(())
+}
+
+#[test]
+fn imports_are_kept(rt: HostRuntime) -> Result<(), Fail> {
+    let alloc = rt.alloc();
+    let caps7 = caps7(alloc)?;
+    let other = text_of(
+        alloc,
+        &[
+            (b"net 2 4 7 1 caps7\n", 1),
+            (&CAPS[..CAPS.len() - 5], 1),
+            (b"0001\n", 1),
+        ],
+    )?;
+    let wide = text_of(
+        alloc,
+        &[(b"net 2 16 16 0 wide\n", 1), (b"0000000000000000\n", 256)],
+    )?;
+    let cases: [Case<'_>; 9] = [
+        (IMPORT, &caps7, Status::Ok, RAISED),
+        (
+            VALUE,
+            b"",
+            Status::Ok,
+            b"net 2 4 7: k 3, t 1, since 1, version 1\n",
+        ),
+        (IMPORT, &caps7, Status::Ok, b"already 1 caps7\n"),
+        (
+            IMPORT,
+            &other,
+            Status::Refused,
+            b"refused: name caps7 is taken by import 1\n",
+        ),
+        (IMPORT, ONE, Status::Ok, b"accepted 2 one: raised 0\n"),
+        (
+            IMPORT,
+            b"ooa 2 2 1 1 1 bad\n12\n",
+            Status::Refused,
+            b"refused: line 2 is no row\n",
+        ),
+        (
+            IMPORT,
+            b"seq 2 2 2 0 twice\n10\n01\n10\n01\n",
+            Status::Refused,
+            b"refused: part 2 choice 1,1 depends with 1,1\n",
+        ),
+        (IMPORT, &wide, Status::Refused, b"refused: m 16 is over 4\n"),
+        (
+            VALUE,
+            b"",
+            Status::Ok,
+            b"net 2 4 7: k 3, t 1, since 1, version 2\n",
+        ),
+    ];
+    assert_runs(&rt, alloc, &mut empty(alloc), &mut Vec::new(alloc), &cases)
+}
+
+#[test]
+fn withdrawals_are_kept(rt: HostRuntime) -> Result<(), Fail> {
+    let alloc = rt.alloc();
+    let caps7 = caps7(alloc)?;
+    let cases: [Case<'_>; 6] = [
+        (
+            IMPORT,
+            WITHDRAW,
+            Status::Refused,
+            b"refused: no import caps7\n",
+        ),
+        (IMPORT, &caps7, Status::Ok, RAISED),
+        (
+            IMPORT,
+            WITHDRAW,
+            Status::Ok,
+            b"withdrawn 1 caps7: lowered 5\n",
+        ),
+        (IMPORT, WITHDRAW, Status::Ok, b"already withdrawn 1 caps7\n"),
+        (
+            IMPORT,
+            &caps7,
+            Status::Refused,
+            b"refused: import 1 caps7 is withdrawn\n",
+        ),
+        (
+            VALUE,
+            b"",
+            Status::Ok,
+            b"net 2 4 7: k 2, t 2, since 2, version 2\n",
+        ),
+    ];
+    assert_runs(&rt, alloc, &mut empty(alloc), &mut Vec::new(alloc), &cases)
+}
+
+// The first load fails, and the put of the second import.
+#[test]
+fn a_failing_keeper(rt: HostRuntime) -> Result<(), Fail> {
+    let alloc = rt.alloc();
+    let caps7 = caps7(alloc)?;
+    let failing = Vec::from_slice(alloc, &[1, 5])?;
+    let mut keeper = MemoryKeeper::new(Records::new(Vec::new(alloc)), failing);
+    let cases: [Case<'_>; 4] = [
+        (IMPORT, ONE, Status::KeeperFault, b""),
+        (IMPORT, ONE, Status::Ok, b"accepted 1 one: raised 0\n"),
+        (IMPORT, &caps7, Status::KeeperFault, b""),
+        (IMPORT, &caps7, Status::Ok, b"accepted 2 caps7: raised 5\n"),
+    ];
+    assert_runs(&rt, alloc, &mut keeper, &mut Vec::new(alloc), &cases)
+}
+
+#[test]
+fn bad_records_are_told(rt: HostRuntime) -> Result<(), Fail> {
+    let alloc = rt.alloc();
+    let mut records = Vec::new(alloc);
+    records.push(Vec::from_slice(alloc, ONE)?)?;
+    records.push(Vec::from_slice(alloc, TWIN)?)?;
+    let cases: [Case<'_>; 2] = [
+        (
+            VALUE,
+            b"",
+            Status::BadStore,
+            b"store: record 2: dependent\n",
+        ),
+        (
+            IMPORT,
+            ONE,
+            Status::BadStore,
+            b"store: record 2: dependent\n",
+        ),
+    ];
+    let mut keeper = SteadyKeeper::new(Records::new(records));
+    assert_runs(&rt, alloc, &mut keeper, &mut Vec::new(alloc), &cases)
+}
+
+// One source fails at its second read, and one sink after three bytes of the line of what was put.
+#[test]
+fn failing_sides_of_an_import(rt: HostRuntime) -> Result<(), Fail> {
+    let alloc = rt.alloc();
+    let mut keeper = empty(alloc);
+    let mut feeds = Vec::new(alloc);
+    for (reads, status, bytes) in [
+        ([2].as_slice(), Status::ReadFault, b"".as_slice()),
+        (&[], Status::WriteFault, b"acc"),
+    ] {
+        let words = words(alloc, IMPORT)?;
+        let failing = Vec::from_slice(alloc, reads)?;
+        let mut input = MemorySource::new(caps7(alloc)?, 100, failing);
+        let mut output = MemorySink::new(alloc, 200, Vec::from_slice(alloc, &[1])?, 3)?;
+        assert_eq!(rt;
+            run_command(
+                alloc,
+                &words,
+                &mut keeper,
+                &mut feeds,
+                &mut input,
+                &mut output
+            ),
+            status
+        );
+        assert_eq!(rt; output.bytes(), bytes);
+    }
+    let cases: [Case<'_>; 1] = [(
+        VALUE,
+        b"",
+        Status::Ok,
+        b"net 2 4 7: k 3, t 1, since 1, version 1\n",
+    )];
+    assert_runs(&rt, alloc, &mut keeper, &mut feeds, &cases)
+}
+
+// The first feed fails at its second line, and is told nothing after it.
+#[test]
+fn feeds_are_told(rt: HostRuntime) -> Result<(), Fail> {
+    let alloc = rt.alloc();
+    let mut feeds: Vec<Box<dyn Feed + Send>> = Vec::new(alloc);
+    for failing in [[2].as_slice(), &[]] {
+        let feed = ListFeed::new(alloc, 16, Vec::from_slice(alloc, failing)?)?;
+        feeds.push(Box::new(alloc, feed)?)?;
+    }
+    let caps7 = caps7(alloc)?;
+    let cases: [Case<'_>; 2] = [
+        (IMPORT, &caps7, Status::Ok, RAISED),
+        (
+            IMPORT,
+            WITHDRAW,
+            Status::Ok,
+            b"withdrawn 1 caps7: lowered 5\n",
+        ),
+    ];
+    assert_runs(&rt, alloc, &mut empty(alloc), &mut feeds, &cases)?;
+    for (feed, (failed, count)) in feeds.iter().zip(&[(true, 1usize), (false, 10)]) {
+        assert_eq!(rt; feed.failed(), *failed);
+        assert_eq!(rt; feed.kept().len(), *count);
+    }
+    Ok(())
+}
