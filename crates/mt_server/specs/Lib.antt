@@ -1,2 +1,5 @@
 pub mod Interleavings
 pub mod Desks
+pub mod Replies
+pub mod Offices
+pub mod Connections

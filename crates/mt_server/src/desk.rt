@@ -10,6 +10,7 @@ ghost use Rattle.mt_service.specs.Telling.{AreTold};
 ghost use Rattle.mt_server.specs.Desks.{IfLoaded, IsUnfinished, LeadTo, LeadPartly, import_of};
 
 use crate::history::{History, Prepared, prepare};
+use mt_answer::Answer;
 use mt_cells::{Bounds, RuleSet};
 use mt_derive::Event;
 use mt_feed::Feed;
@@ -48,6 +49,13 @@ pub struct DeskRefused<K: Keeper> {
 pub struct Done {
     pub outcome: Outcome,
     pub front: Option<Front<Table, Event>>,
+}
+
+/// The answer to a question, and a front of the list that it is over.
+#[derive(Drop)]
+pub struct Looked {
+    pub answer: Answer,
+    pub front: Front<Table, Event>,
 }
 
 impl<K: Keeper> Desk<K> {

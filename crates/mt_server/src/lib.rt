@@ -1,9 +1,13 @@
 //! A desk that takes imports one after the other and publishes the list, and readers beside it.
 #![tactic(auto)]
 
+mod connection;
 mod desk;
 mod history;
 pub mod laws;
+mod office;
 
-pub use desk::{Desk, DeskRefused, Done, OpenDesk};
+pub use connection::{Ended, MOST_RESPONSES};
+pub use desk::{Desk, DeskRefused, Done, Looked, OpenDesk};
 pub use history::History;
+pub use office::Office;

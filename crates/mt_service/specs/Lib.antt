@@ -8,3 +8,4 @@ pub mod Laws
 pub mod Accepting
 pub mod Filling
 pub mod Texts
+pub mod Bodies

@@ -1,0 +1,17 @@
+-- Where a connection goes with imports, and with questions that no view answers.
+use Rattle.std.specs.Prelude.{◌≢◌, ℕ, ◌-◌, List, length, take}
+use Rattle.mt_derive.specs.declared.events.Event.{Event}
+use Rattle.mt_table.specs.declared.published.Base.{Base}
+use Rattle.mt_service.specs.declared.outcomes.Outcome.{Outcome}
+use Rattle.mt_service.specs.declared.outcomes.Outcome.TheVariants as outcome
+use Rattle.mt_service.specs.Steps.{IsStep}
+
+-- the list before an import, by what came of it and the list M after it
+abbrev pub before : Outcome → List Event → List Event
+before (outcome.Accepted n name raised tried) M = take (length M - 1) M
+before (outcome.Withdrawn n name lowered tried) M = take (length M - 1) M
+before o M = M
+
+-- the text came to this outcome, and the list after it is M
+abbrev pub IsImported : Base → List ℕ → Outcome → List Event → Type 0
+IsImported base text o M = (o ≢ outcome.Memory) × IsStep base.bounds base.rules (before o M) text o M
