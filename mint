@@ -4,7 +4,7 @@ if [ "$#" = 1 ] && [ "$1" = --help ]; then
     cat <<'HELP'
 usage: mint STORE FEED M,S COMMAND
 
-STORE is :memory:, today; FEED is - or the path of a file to append to. Systems have at most M columns and S coordinates, up to 20,48.
+STORE is :memory: or the path of a store; FEED is - or the path of a file to append to. Systems have at most M columns and S coordinates, up to 20,48.
 
 check                     whether the claim of the import text on standard input holds
                             mint :memory: - 16,32 check < examples/golay.txt
