@@ -6,6 +6,7 @@ mod desk;
 mod history;
 pub mod laws;
 mod office;
+mod replies;
 
 pub use connection::{Ended, MOST_RESPONSES};
 pub use desk::{Desk, DeskRefused, Done, Looked, OpenDesk};
