@@ -24,9 +24,9 @@ pub trait Naming {
 }
 
 impl Naming for Brand {
-    ghost use Rattle.mt_server.specs.Offices.{nobodys};
+    ghost use Rattle.mt_server.specs.Offices.{no_publication};
 
-    ghost publication = { nobodys };
+    ghost publication = { no_publication };
 }
 
 /// A history of the publication that `N` names.
