@@ -1,3 +1,5 @@
 mod OnceLemmas
 mod InterleavingLemmas
 mod DeskLemmas
+mod OfficeLemmas
+mod ReplyLemmas

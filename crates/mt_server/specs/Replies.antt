@@ -58,12 +58,15 @@ outcome_reply o = json_reply (outcome_status o) (outcome_data o)
 -- ---- questions
 
 -- the list has so many events, which are fewer than were asked for
-abbrev pub early_reply : ℕ → ℕ → Reply
-early_reply at_least version = json_reply 409 (object (members (
+abbrev pub early_data : ℕ → ℕ → Data
+early_data at_least version = object (members (
     (codes "at_least", natural at_least)
     ∷ (codes "error", string (codes "not yet"))
     ∷ (codes "version", natural version)
-    ∷ [])))
+    ∷ []))
+
+abbrev pub early_reply : ℕ → ℕ → Reply
+early_reply at_least version = json_reply 409 (early_data at_least version)
 
 -- the reply to a question over the list E, which is to have so many events at least; what is outside the bounds is said over any list
 abbrev pub IsAnswer : Bounds → RuleSet → List Event → Question → ℕ → Reply → Type 0

@@ -6,8 +6,13 @@ mod desk;
 mod history;
 pub mod laws;
 mod office;
+mod replies;
+mod shared;
+#[cfg(test)]
+mod tests;
 
 pub use connection::{Ended, MOST_RESPONSES};
 pub use desk::{Desk, DeskRefused, Done, Looked, OpenDesk};
 pub use history::History;
 pub use office::Office;
+pub use shared::{LockedOffice, NamedHistory, Naming, Shared};
