@@ -6,6 +6,7 @@ ghost use Rattle.mt_table.specs.Shapes.{IsShaped, NoneBefore, ArePlaced, ArePlac
 ghost use Rattle.mt_table.specs.Starts.{StartsWithAxioms, AreSet};
 ghost use Rattle.mt_table.specs.Needs.{depth_of};
 
+use crate::needed_lines::next_line;
 use mt_cells::{
     Bounds, Cell, Instance, Line, Rule, RuleSet, Stage, Steps, conclude, lines_of_parent,
 };
@@ -487,7 +488,7 @@ impl Work {
     {
         let mut count = 0;
         let mut lines = lines_of_parent(self.bounds, self.rules, cell);
-        while let Some(line) = lines.next() {
+        while let Some(line) = next_line(&mut lines) {
             count += self.try_line(cell, &line, steps);
         }
         count
