@@ -5,7 +5,7 @@ ghost use Rattle.mt_poly.specs.Polynomials.{IsCoprime, IsMember, IsPolynomial};
 ghost use Rattle.mt_poly.specs.CoprimeLists.{IsCoprimeList, IsNext, MayFollow};
 
 use crate::Poly;
-use crate::euclid::gcd;
+use crate::coprimality::are_coprime;
 use mt_linear::Order;
 use std::alloc::{AllocError, Global};
 
@@ -63,9 +63,11 @@ fn may_follow(
     if length < 2 || coefficients[length - 1] != 1 {
         return Ok(false);
     }
+    let mut dividend = Vec::with_capacity(alloc, length)?;
+    let mut divisor = Vec::with_capacity(alloc, length)?;
     for poly in kept {
-        let found = gcd(alloc, poly, candidate)?;
-        if found.divisor.coefficients().len() != 1 {
+        let member = poly.coefficients();
+        if !are_coprime(order, member, coefficients, &mut dividend, &mut divisor)? {
             return Ok(false);
         }
     }
