@@ -11,8 +11,9 @@ use Rattle.mt_linear.proofs.Combination.{zero_add}
 use Rattle.mt_linear.proofs.Abstract.{Ops, HasFieldLaws, Digit, digit, digit-injective, digit-add, digit-mul, field_of, field_laws, mul_null}
 use Rattle.mt_linear.proofs.Sums.{neg-mul}
 use Rattle.mt_poly.specs.Polynomials.{IsPolynomial, IsCoprime, HaveSameDivisors, Divides as NumberDivides}
-use Rattle.mt_poly.proofs.Action.{poly_add, poly_scale, act, act_null-cons, act_one, act-poly_add, act-poly_scale, coef_add, coef_scale}
+use Rattle.mt_poly.proofs.Action.{poly_add, poly_scale, act, act_null-cons, act-poly_add, act-poly_scale, coef_add, coef_scale}
 use Rattle.mt_poly.proofs.Divisibility.{Divides, divides_sum, unit_constant}
+use Rattle.mt_poly.proofs.CommonDivisors.{divides_self}
 use Rattle.mt_poly.proofs.PolynomialBridge.{elements, acts, element_at, acts_of, multiple_to_act, divides_from, divides_to}
 
 -- ---- a polynomial times a power of x
@@ -108,8 +109,8 @@ module _ (o : Order) where
 
   -- ---- where it ends
 
-  divides_self : (p : List ℕ) → AllElements o p → NumberDivides o p p
-  divides_self p h = divides_from o p p h (F.one ∷ [], λ w l. sym (act_one F L (acts o p w) l))
+  pub divides_itself : (p : List ℕ) → AllElements o p → NumberDivides o p p
+  divides_itself p h = divides_from o p p h (divides_self F L (elements o p))
 
   divides_zero : (p : List ℕ) → NumberDivides o p []
   divides_zero p = divides_from o p [] (λ k. number_pos o) ([], λ w l. refl)
@@ -145,7 +146,7 @@ module _ (o : Order) where
     λ h. elim (cases_lt 1 (length p)) [
       | inl g ↦
           absurd (hp.lead l
-          (h p hp.elements (subst (NumberDivides o p) (sym (nil_from_length z none)) (divides_zero p)) (divides_self p hp.elements) (length p - 1) (omega arith)))
+          (h p hp.elements (subst (NumberDivides o p) (sym (nil_from_length z none)) (divides_zero p)) (divides_itself p hp.elements) (length p - 1) (omega arith)))
       | inr g ↦ omega arith
     ],
     λ size d hd first second. constant_divisor p d hp size hd second,
