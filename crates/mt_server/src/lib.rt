@@ -7,6 +7,7 @@ mod history;
 pub mod laws;
 mod office;
 mod replies;
+mod requests;
 
 pub use connection::{Ended, MOST_RESPONSES};
 pub use desk::{Desk, DeskRefused, Done, Looked, OpenDesk};
