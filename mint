@@ -4,7 +4,7 @@ if [ "$#" = 1 ] && [ "$1" = --help ]; then
     cat <<'HELP'
 usage: mint STORE FEED M,S COMMAND
 
-STORE is :memory: and FEED is -, today. Systems have at most M columns and S coordinates, up to 20,48.
+STORE is :memory: or the path of a store; FEED is - or the path of a file to append to. Systems have at most M columns and S coordinates, up to 20,48.
 
 check                     whether the claim of the import text on standard input holds
                             mint :memory: - 16,32 check < examples/golay.txt
@@ -20,6 +20,8 @@ table Q M                 the values for each S, as comma-separated values
                             mint :memory: - 16,32 table 2 10
 export                    the values of all cells, as comma-separated values
                             mint :memory: - 16,32 export
+import                    imports the text on standard input, or withdraws an import
+                            mint :memory: - 16,32 import < examples/golay.txt
 niederreiter Q M S        Niederreiter's generator matrices of a sequence, as an import text
                             mint :memory: - 16,32 niederreiter 2 10 4
 HELP

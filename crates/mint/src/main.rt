@@ -26,8 +26,9 @@ mod words;
 use command::{run_command, write_answer};
 use mt_feed::{Feed, LinesFeed};
 use mt_io::{Sink, StdSink, StdSource};
-use mt_keeper::{Records, SteadyKeeper};
-use start::{Start, start_of};
+use mt_keeper::{Keeper, Records, SteadyKeeper};
+use mt_keeper_sql::{SqlKeeper, Unopened};
+use start::{Start, Store, start_of};
 use status::Status;
 use std::env;
 use std::fs::{File, OpenOptions};
@@ -52,14 +53,50 @@ fn main(rt: HostRuntime) -> ExitCode {
     };
     ExitCode::from(match start_of(&words) {
         Start::Usage => write_answer(&mut output, Status::Words, USAGE).number(),
-        Start::Unopened => UNOPENED,
-        Start::Command { feed, words } => with_feed(&rt, feed, words, &mut output),
+        Start::Command { store, feed, words } => with_store(&rt, store, feed, words, &mut output),
     })
 }
 
-// Opens the feed, and runs the command over it and a store in memory.
-fn with_feed<W: Sink>(
+// Runs the command over its store, which is opened before the feed.
+fn with_store<W: Sink>(
     rt: &HostRuntime,
+    store: Store<'_>,
+    feed: Option<&str>,
+    words: &[String],
+    output: &mut W,
+) -> u8 {
+    match store {
+        Store::Memory => {
+            let mut keeper = SteadyKeeper::new(Records::new(Vec::new(rt.alloc())));
+            with_feed(rt, &mut keeper, feed, words, output)
+        }
+        Store::Path(path) => with_file(rt, path, feed, words, output),
+    }
+}
+
+// Runs the command over the store at the path, which is closed behind it.
+fn with_file<W: Sink>(
+    rt: &HostRuntime,
+    path: &str,
+    feed: Option<&str>,
+    words: &[String],
+    output: &mut W,
+) -> u8 {
+    let mut keeper = match SqlKeeper::open(rt, path) {
+        Ok(keeper) => keeper,
+        Err(Unopened::Memory) => return Status::Memory.number(),
+        Err(_) => return UNOPENED,
+    };
+    let status = with_feed(rt, &mut keeper, feed, words, output);
+    // Where this fails, the records lie in the file and its log together.
+    let _ = keeper.close();
+    status
+}
+
+// Opens the feed, and runs the command over it and the keeper's records.
+fn with_feed<K: Keeper, W: Sink>(
+    rt: &HostRuntime,
+    keeper: &mut K,
     feed: Option<&str>,
     words: &[String],
     output: &mut W,
@@ -78,17 +115,8 @@ fn with_feed<W: Sink>(
             return Status::Memory.number();
         }
     }
-    let mut keeper = SteadyKeeper::new(Records::new(Vec::new(rt.alloc())));
     let mut input = StdSource::new(rt.stdin());
-    run_command(
-        rt.alloc(),
-        words,
-        &mut keeper,
-        &mut feeds,
-        &mut input,
-        output,
-    )
-    .number()
+    run_command(rt.alloc(), words, keeper, &mut feeds, &mut input, output).number()
 }
 
 // The file at the path, to whose end lines are written, or the status where it cannot be opened.

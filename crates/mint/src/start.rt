@@ -1,6 +1,6 @@
 //! What the words of the command line start.
 ghost use Rattle.std.specs.Prelude.{◌≡◌, ◌<◌, ℕ, List, ◌∷◌, length, map, string_bytes, MatchOption};
-ghost use Rattle.mint.specs.Starts.{IsFeed, IsStart};
+ghost use Rattle.mint.specs.Starts.{IsFeed, IsStore, IsStart};
 
 use crate::words::first_word;
 
@@ -9,27 +9,47 @@ use crate::words::first_word;
 pub enum Start<'a> {
     /// There are too few words: it writes the usage.
     Usage,
-    /// The store cannot be opened.
-    Unopened,
-    /// It runs the command of these words, and tells the feed at this path, where there is one.
+    /// It runs the command of these words over the store, and tells the feed at this path, where there
+    /// is one.
     Command {
+        store: Store<'a>,
         feed: Option<&'a str>,
         words: &'a [String],
     },
 }
 
-/// What the words of the command line start. They are the program's name, the store, the feed, which
-/// is a path or `-` for none, and the words of a command. The one store is `:memory:`.
+/// Where the records of a command are kept.
+#[derive(Clone, Copy)]
+pub enum Store<'a> {
+    /// In memory. There are none at its start, and they end with the program.
+    Memory,
+    /// In the database file at this path, and its log.
+    Path(&'a str),
+}
+
+/// What the words of the command line start. They are the program's name, the store, which is a path
+/// or `:memory:`, the feed, which is a path or `-` for none, and the words of a command.
 pub fn start_of(words: &[String]) -> Start<'_>
     ensures { IsStart (map string_bytes words.now) result }
 {
     match store_and_feed(words) {
         None => Start::Usage,
-        Some((":memory:", feed, words)) => Start::Command {
+        Some((store, feed, words)) => Start::Command {
+            store: store_of(store),
             feed: feed_path(feed),
             words,
         },
-        Some(_) => Start::Unopened,
+    }
+}
+
+// The store of its word.
+fn store_of(word: &str) -> Store<'_>
+    ensures { IsStore word.now result }
+{
+    if word == ":memory:" {
+        Store::Memory
+    } else {
+        Store::Path(word)
     }
 }
 

@@ -1,6 +1,6 @@
 //! Runs of the top call over memory, with texts from outside.
 use crate::command::run_command;
-use crate::start::{Start, start_of};
+use crate::start::{Start, Store, start_of};
 use crate::status::Status;
 use mt_io::{MemorySink, MemorySource, Sink, Source, SteadySink, SteadySource};
 use mt_keeper::{Records, SteadyKeeper};
@@ -288,14 +288,22 @@ fn the_store_and_the_feed_are_looked_at(rt: HostRuntime) -> Result<(), Fail> {
     let alloc = rt.alloc();
     let few = words(alloc, &["mint", ":memory:"])?;
     assert!(rt; matches!(start_of(&few), Start::Usage));
-    let file = words(alloc, &["mint", "store.db", "-", "4,8", "export"])?;
-    assert!(rt; matches!(start_of(&file), Start::Unopened));
-    for (feed, path) in [("-", None), ("lines.txt", Some("lines.txt"))] {
-        let memory = words(alloc, &["mint", ":memory:", feed, "4,8", "export"])?;
-        let Start::Command { feed, words } = start_of(&memory) else {
+    for (store, feed, path, lines) in [
+        (":memory:", "-", None, None),
+        (":memory:", "lines.txt", None, Some("lines.txt")),
+        ("store.db", "-", Some("store.db"), None),
+        ("-", ":memory:", Some("-"), Some(":memory:")),
+    ] {
+        let command = words(alloc, &["mint", store, feed, "4,8", "export"])?;
+        let Start::Command { store, feed, words } = start_of(&command) else {
             return Err("the words start no command")?;
         };
-        assert_eq!(rt; feed, path);
+        let file = match store {
+            Store::Memory => None,
+            Store::Path(path) => Some(path),
+        };
+        assert_eq!(rt; file, path);
+        assert_eq!(rt; feed, lines);
         assert_eq!(rt; words.len(), 2);
     }
     Ok(())

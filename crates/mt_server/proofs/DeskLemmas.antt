@@ -1,6 +1,6 @@
 -- What is outstanding, what is told where nothing is accepted, and the happenings of an import.
-use Rattle.std.proofs.Common.{◌≡◌, ◌≢◌, ℕ, ◌+◌, ◌-◌, ◌<◌, List, [], ◌∷◌, ◌++◌, length, Option, Some, None, Result, Ok, Err, IfOk, MatchResult, inl, inr, refl, sym, ap, ◌∙◌, subst, arith, append-nil}
-use Rattle.std.specs.Prelude.{IfSome, IfNone}
+use Rattle.std.proofs.Common.{◌≡◌, ◌≢◌, ◌⊎◌, ℕ, ◌+◌, ◌-◌, ◌<◌, List, [], ◌∷◌, ◌++◌, length, Option, Some, None, Result, Ok, Err, IfOk, MatchResult, inl, inr, refl, sym, ap, ◌∙◌, subst, arith, append-nil}
+use Rattle.std.specs.Prelude.{IfSome, IfNone, OnOk, OnErr}
 use Rattle.std.specs.List.{AllZip}
 use Rattle.std.proofs.lemmas.List.{length_push}
 use Rattle.mt_feed.specs.Faring.{Fares, IsTold, IsToldPrefix}
@@ -16,7 +16,7 @@ use Rattle.mt_service.specs.declared.outcomes.Outcome.TheVariants as outcome
 use Rattle.mt_service.specs.Steps.{IsStep}
 use Rattle.mt_service.specs.Records.{ArePut}
 use Rattle.mt_service.specs.Telling.{AreTold, AreLines}
-use Rattle.mt_server.specs.Desks.{IsBehind, IsUnfinished, LeadTo, LeadPartly, import_of}
+use Rattle.mt_server.specs.Desks.{IsBehind, IsUnfinished, LeadTo, LeadPartly, import_of, LookPartly, look_happenings}
 use Rattle.mt_server.proofs.InterleavingLemmas.{step_behind}
 
 -- ---- the outstanding event
@@ -121,3 +121,15 @@ module _ (b : Bounds) (rules : RuleSet) (text : List ℕ) where
   pub lead_none : {F : Type 0} (r : Option F) (A H M H' : List Event) (Q : Type 0) → IfNone r (Q × IsUnfinished b rules text A H M H') → IfNone r (LeadPartly b rules text A H M H')
   lead_none (Some f) A H M H' Q memory = tt
   lead_none None A H M H' Q memory = part_leads A H M H' memory.1
+
+-- ---- looks
+
+module _ (b : Bounds) (rules : RuleSet) where
+  pub look_leads : {T R : Type 0} (r : Result T R) (A H A' H' : List Event) → A' ≡ A → OnOk r (H' ≡ A) → OnOk r (LeadTo b rules look_happenings A H A' H')
+  look_leads (Ok _) A H A' H' same all = λ shown fronts. ((tt, (tt, tt)), sym same, sym all)
+  look_leads (Err _) A H A' H' same all = tt
+
+  pub look_partly : {T R : Type 0} (r : Result T R) (A H A' H' : List Event) → A' ≡ A → OnErr r ((H' ≡ H) ⊎ (H' ≡ A)) → OnErr r (LookPartly b rules A H A' H')
+  look_partly (Ok _) A H A' H' same part = tt
+  look_partly (Err _) A H A' H' same (inl kept) = (0, omega arith, λ shown fronts. (tt, sym same, sym kept))
+  look_partly (Err _) A H A' H' same (inr all) = (1, omega arith, λ shown fronts. ((tt, tt), sym same, sym all))

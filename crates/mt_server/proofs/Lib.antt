@@ -6,3 +6,5 @@ mod ExchangeLemmas
 mod RequestLemmas
 mod TurnLemmas
 mod WireLemmas
+mod OfficeLemmas
+mod ReplyLemmas

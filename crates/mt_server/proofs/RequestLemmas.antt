@@ -1,7 +1,5 @@
 -- The statuses of replies, and replies for want of memory.
-use Rattle.std.proofs.Common.{◌≡◌, ◌≢◌, ℕ, ◌+◌, ◌≤◌, ◌==◌, ◌⊎◌, cond, Bool, true, false, List, length, take, inl, inr, refl, sym, ap, ◌∙◌, subst, arith, Option, Some, None, Result, Ok, Err, IfOk, MatchResult}
-use Rattle.std.proofs.lemmas.Bool.Decides.{eqb_tells}
-use Rattle.mt_io.specs.Faults.{Rose}
+use Rattle.std.proofs.Common.{◌≡◌, ◌≢◌, ℕ, ◌+◌, ◌≤◌, ◌==◌, ◌⊎◌, cond, Bool, true, false, List, ◌∷◌, length, inl, inr, refl, sym, ap, ◌∙◌, subst, arith, Option, Some, None, Result, Ok, Err, IfOk, MatchResult}
 use Rattle.mt_cells.specs.declared.bounds.Bounds.{Bounds}
 use Rattle.mt_cells.specs.declared.rules.RuleSet.{RuleSet}
 use Rattle.mt_cells.specs.declared.asks.Question.{Question}
@@ -16,8 +14,15 @@ use Rattle.mt_answer.specs.declared.facts.Fact.{Fact}
 use Rattle.mt_answer.specs.declared.facts.Fact.TheVariants as fact
 use Rattle.mt_service.specs.declared.outcomes.Outcome.{Outcome}
 use Rattle.mt_service.specs.declared.outcomes.Outcome.TheVariants as outcome
+use Rattle.mt_publish.specs.States.{Publication, next_miss}
+use Rattle.mt_publish.specs.States as viewer
+use Rattle.mt_table.specs.declared.published.Base.{Base}
+use Rattle.mt_answer.specs.declared.replies.Answer.{Answer}
+use Rattle.mt_answer.specs.Answers.{shown}
+use Rattle.mt_server.specs.Offices.{before}
+use Rattle.mt_server.specs.Turns.{reply_from, IsLooked}
 use Rattle.mt_server.specs.Replies.{Response, with_reply, response_text, memory_reply, outcome_status, outcome_reply, IsAnswer, IsCompared, early_reply, short_reply}
-use Rattle.mt_server.specs.Connections.{Viewed, OrMemory, IsQuestionAnswered, IsTextAnswered, IsAskedAnswered, IsAnswered, keeper_fault, Counted}
+use Rattle.mt_server.specs.Connections.{Viewed, OrMemory, IsView, or_zero, IsQuestionAnswered, IsTextAnswered, IsAskedAnswered, IsAnswered, keeper_fault, Counted}
 
 -- ---- statuses
 
@@ -49,12 +54,18 @@ or_memory : (P Q : Reply → Type 0) (r : Reply) → ((x : Reply) → P x → Q 
 or_memory P Q r f memory (inl h) = f r h
 or_memory P Q r f memory (inr e) = subst Q (sym e) memory
 
+abbrev IsAnswerBy : Viewed → Question → ℕ → List Event → Reply → Type 0
+IsAnswerBy v q k E r = IsAnswer v.publication.base.bounds v.publication.base.rules E q k r
+
 pub question_fine : (v : Viewed) (q : Question) (k : ℕ) (r : Reply) (w : Viewed) → IsQuestionAnswered v q k r w
     → IsStatus r.status × (keeper_fault (with_reply r) ≡ 0)
 question_fine v q k r w (inl h) =
-    or_memory _ Fine r (λ x a. answer_fine _ _ h.0 q k x a) (refl, refl) h.2
+    or_memory (IsAnswerBy v q k h.0) Fine r (λ x a. answer_fine v.publication.base.bounds v.publication.base.rules h.0 q k x a) (refl, refl) h.2
 question_fine v q k r w (inr (inl h)) =
-    or_memory _ Fine r (λ x c. compared_as _ Fine _ _ x (λ y a. answer_fine _ _ h.0 q k y a) (refl, refl) c) (refl, refl) h.2
+    or_memory (λ x. IsCompared (length h.0) (viewer.shown v) (IsAnswerBy v q k h.0) x) Fine r
+    (λ x c. compared_as (IsAnswerBy v q k h.0) Fine (length h.0) (viewer.shown v) x
+    (λ y a. answer_fine v.publication.base.bounds v.publication.base.rules h.0 q k y a) (refl, refl) c)
+    (refl, refl) h.2
 question_fine v q k r w (inr (inr h)) = fine_at r memory_reply h.1 (refl, refl)
 
 outcome_fine : (o : Outcome) → IsStatus (outcome_status o)
@@ -78,7 +89,10 @@ HasStatus r = IsStatus r.status
 
 text_status : (v : Viewed) (text : List ℕ) (r : Reply) (w : Viewed) → IsTextAnswered v text r w → HasStatus r
 text_status v text r w (inl h) =
-    or_memory _ HasStatus r (λ x c. compared_as _ HasStatus _ _ x (λ y e. subst HasStatus (sym e) (outcome_fine h.0)) refl c) refl h.4
+    or_memory (λ x. IsCompared (length (before h.0 h.1)) (viewer.shown v) (λ y. y ≡ outcome_reply h.0) x) HasStatus r
+    (λ x c. compared_as (λ y. y ≡ outcome_reply h.0) HasStatus (length (before h.0 h.1)) (viewer.shown v) x
+    (λ y e. subst HasStatus (sym e) (outcome_fine h.0)) refl c)
+    refl h.4
 text_status v text r w (inr h) = subst HasStatus (sym h.1) refl
 
 abbrev Stated : Response → Type 0
@@ -115,34 +129,64 @@ pub counted_memory : (n old new : ℕ) → Counted n old new → Counted (keeper
 counted_memory n old new (inl h) = inl (omega arith)
 counted_memory n old new (inr h) = inr h
 
--- ---- the keeper's faults
+-- ---- questions
 
-fault_of : (b : Bool) (old new : ℕ) → b ≡ true → Rose old new → Counted (cond b 1 0) old new
-fault_of true old new e rose = grind arith
-fault_of false old new e rose = inl cc
+compared_map : (n n' m m' : ℕ) (P Q : Reply → Type 0) (r : Reply) → n ≡ n' → m ≡ m' → ((x : Reply) → P x → Q x) → IsCompared n m P r → IsCompared n' m' Q r
+compared_map n n' m m' P Q r en em f (inl h) =
+    subst (λ (i : ℕ). IsCompared i m' Q r) en (subst (λ (j : ℕ). IsCompared n j Q r) em (inl h))
+compared_map n n' m m' P Q r en em f (inr h) =
+    subst (λ (i : ℕ). IsCompared i m' Q r) en (subst (λ (j : ℕ). IsCompared n j Q r) em (inr (h.0, f r h.1)))
 
-pub fault_counted : (r : Response) (old new : ℕ) → old ≤ new → (r.reply.status ≡ 503 → Rose old new) → Counted (keeper_fault r) old new
-fault_counted r old new later fault =
-    elim (eqb_tells r.reply.status 503) [
-      | inl is ↦ fault_of (r.reply.status == 503) old new is.0 (fault is.1)
-      | inr other ↦ subst (λ (b : Bool). Counted (cond b 1 0) old new) (sym other.0) (inl (omega arith))
-    ]
+state : Publication Base → List Event → List (List Event) → ℕ → Viewed
+state p s l m = record { publication = p; seen = s; learnt = l; missed = m }
 
-pub keeper_failed : (o : Outcome) → outcome_status o ≡ 503 → o ≡ outcome.KeeperFault
-keeper_failed (outcome.Form refused) e = cc
-keeper_failed (outcome.NoImport name) e = cc
-keeper_failed (outcome.AlreadyWithdrawn n name) e = cc
-keeper_failed (outcome.Range name n limit) e = cc
-keeper_failed (outcome.TooManyChoices count) e = cc
-keeper_failed (outcome.Already n name) e = cc
-keeper_failed (outcome.IsWithdrawn n name) e = cc
-keeper_failed (outcome.NameTaken n name) e = cc
-keeper_failed outcome.Full e = cc
-keeper_failed (outcome.Dependent form part choice coefficients) e = cc
-keeper_failed outcome.KeeperFault e = refl
-keeper_failed outcome.Memory e = cc
-keeper_failed (outcome.Accepted n name raised tried) e = cc
-keeper_failed (outcome.Withdrawn n name lowered tried) e = cc
+same_state : (v w : Viewed) (l : List (List Event)) → w.publication ≡ v.publication → w.seen ≡ v.seen → w.learnt ≡ l → w.missed ≡ v.missed
+    → w ≡ record v { learnt = l }
+same_state v w l p s e m =
+    ap (λ (x : Publication Base). state x w.seen w.learnt w.missed) p
+    ∙ ap (λ (x : List Event). state v.publication x w.learnt w.missed) s
+    ∙ ap (λ (x : List (List Event)). state v.publication v.seen x w.missed) e
+    ∙ ap (λ (x : ℕ). state v.publication v.seen l x) m
+
+-- an answer over a front that was compared with what the viewer was shown, and learnt
+pub looked_by : {E : Type 0} (result : Result Answer E) (v w : Viewed) (p : Publication Base) (q : Question) (k : ℕ) (L : List Event) (answer : Reply) (compared most : ℕ)
+    → v.publication ≡ p → IsAnswer p.base.bounds p.base.rules L q k answer → compared ≡ length L → most ≡ viewer.shown v
+    → w.publication ≡ v.publication → w.seen ≡ v.seen → w.learnt ≡ L ∷ v.learnt → w.missed ≡ v.missed
+    → IfOk result (λ a. IsCompared compared most (λ r. r ≡ answer) (shown a))
+    → IsLooked v q k (reply_from result) w
+looked_by (Ok a) v w p q k L answer compared most same is c m e f g h judged =
+    inl (
+      L,
+      same_state v w (L ∷ v.learnt) e f g h,
+      inl (compared_map compared (length L) most (viewer.shown v) (λ r. r ≡ answer) (IsAnswerBy v q k L) (shown a) c m
+      (λ x here. subst (IsAnswerBy v q k L) (sym here)
+      (subst (λ (z : Publication Base). IsAnswer z.base.bounds z.base.rules L q k answer) (sym same) is)) judged),
+    )
+looked_by (Err a) v w p q k L answer compared most same is c m e f g h judged =
+    inl (L, same_state v w (L ∷ v.learnt) e f g h, inr refl)
+
+-- an answer over a view
+pub question_viewed : {E : Type 0} (result : Result Answer E) (v w : Viewed) (q : Question) (k : ℕ)
+    → IsView v w.seen w → IfOk result (λ a. IsAnswer v.publication.base.bounds v.publication.base.rules w.seen q k (shown a))
+    → IsQuestionAnswered v q k (reply_from result) w
+question_viewed (Ok a) v w q k view answer = inl (w.seen, view, inl answer)
+question_viewed (Err a) v w q k view answer = inl (w.seen, view, inr refl)
+
+looked_missed : (v w : Viewed) (q : Question) (k : ℕ) (r : Reply) → IsLooked (record v { missed = next_miss v.missed }) q k r w → IsQuestionAnswered v q k r w
+looked_missed v w q k r (inl h) = inr (inl (h.0, h.1, h.2))
+looked_missed v w q k r (inr h) = inr (inr (h.0, h.1))
+
+-- or over a front, where no view was given
+pub question_looked : (v u w : Viewed) (q : Question) (k : ℕ) (r : Reply) → u ≡ record v { missed = next_miss v.missed } → IsLooked u q k r w
+    → IsQuestionAnswered v q k r w
+question_looked v u w q k r e h = looked_missed v w q k r (subst (λ (z : Viewed). IsLooked z q k r w) e h)
+
+pub get_answered : (v : Viewed) (a : Asked) (q : Question) (at_least : Option ℕ) (k : ℕ) (reply : Reply) (body : List ℕ) (r : Response) (w : Viewed)
+    → a ≡ asked.Get q at_least → k ≡ or_zero at_least → IsQuestionAnswered v q k reply w → r ≡ with_reply reply
+    → IsAskedAnswered v a body r w
+get_answered v a q at_least k reply body r w is wanted h e =
+    subst (λ (x : Asked). IsAskedAnswered v x body r w) (sym is)
+    (reply, subst (λ (n : ℕ). IsQuestionAnswered v q n reply w) wanted h, e)
 
 -- ---- what a request is answered
 

@@ -1,10 +1,11 @@
 -- What one item of a connection makes of a turn, and the turns so far.
-use Rattle.std.proofs.Common.{◌≡◌, ℕ, ◌≤◌, ◌==◌, ◌||◌, Bool, List, ◌++◌, sym, ap, ◌∙◌, subst, inl, Option}
+use Rattle.std.proofs.Common.{◌≡◌, ℕ, ◌≤◌, ◌==◌, ◌||◌, Bool, true, List, ◌++◌, refl, sym, subst, inl, inr, Option}
 use Rattle.mt_io.specs.Told.{WhereTold}
 use Rattle.mt_http.specs.Buffers.{Held, ahead}
 use Rattle.mt_http.specs.Reading.{request_at}
-use Rattle.mt_http.specs.Responses.{memory_text}
+use Rattle.mt_http.specs.Responses.{memory_text, refusal_text}
 use Rattle.mt_http.specs.declared.wire.Got.TheVariants as got
+use Rattle.mt_http.specs.declared.wire.Refusal.{Refusal}
 use Rattle.mt_http.specs.declared.wire.Wire.{Wire}
 use Rattle.mt_server.specs.declared.connection.Next.{Next}
 use Rattle.mt_server.specs.declared.connection.TheConstants.{MOST_RESPONSES}
@@ -46,6 +47,25 @@ request_told left₀ left₁ left₂ front turn n v w held before before' now ta
     subst (λ (l : Option (List ℕ)). WhereTold left₀ l (λ u after. IsTurn turn n v w (front ++ u) held after before now tally tally')) (sym same)
     (told_map left₀ left₁ (λ u after. IsItem (got.Request wire) (front ++ u) held after) (λ u after. IsTurn turn n v w (front ++ u) held after before now tally tally')
     (λ u after i. request_turn turn n v w (front ++ u) held after before now tally tally' wire i served) h)
+
+refused_turn : (turn : Next) (n : ℕ) (v : Viewed) (stream : List ℕ) (held : Held) (after : List ℕ) (before now : Option (List ℕ)) (tally : ℕ) (e : Refusal)
+    → IsItem (got.Refused e) stream held after → IsSent turn true n before now (refusal_text e)
+    → IsTurn turn n v v stream held after before now tally tally
+refused_turn turn n v stream held after before now tally e h sent =
+    inr (inl (e, record { viewer = refl; stream_is = h.1; counted = refl }, h.0, sent))
+
+-- a refusal, where the stream is told
+pub refused_told : (left₀ left₁ left₂ : Option (List ℕ)) (front : List ℕ) (turn : Next) (n : ℕ) (v : Viewed) (held : Held) (before before' now : Option (List ℕ)) (tally : ℕ) (e : Refusal) (bytes : List ℕ)
+    → WhereTold left₀ left₁ (λ u after. IsItem (got.Refused e) (front ++ u) held after)
+    → left₂ ≡ left₁ → before' ≡ before → bytes ≡ refusal_text e
+    → IsSent turn true n before' now bytes
+    → WhereTold left₀ left₂ (λ u after. IsTurn turn n v v (front ++ u) held after before now tally tally)
+refused_told left₀ left₁ left₂ front turn n v held before before' now tally e bytes h same same_written is sent =
+    let whole = subst (λ (b : Option (List ℕ)). IsSent turn true n b now (refusal_text e)) same_written
+    (subst (λ (t : List ℕ). IsSent turn true n before' now t) is sent) in
+    subst (λ (l : Option (List ℕ)). WhereTold left₀ l (λ u after. IsTurn turn n v v (front ++ u) held after before now tally tally)) (sym same)
+    (told_map left₀ left₁ (λ u after. IsItem (got.Refused e) (front ++ u) held after) (λ u after. IsTurn turn n v v (front ++ u) held after before now tally tally)
+    (λ u after i. refused_turn turn n v (front ++ u) held after before now tally e i whole) h)
 
 -- a turn behind those so far
 pub turned_told : (left₀ left₁ left₂ : Option (List ℕ)) (held held' : Held) (turn : Next) (n : ℕ) (v₀ v w : Viewed) (before₀ before now : Option (List ℕ)) (tally₀ tally tally' : ℕ)

@@ -47,3 +47,12 @@ import_of text outcome list = publish ∷ accept text outcome list ∷ publish �
 abbrev pub LeadPartly : Bounds → RuleSet → List ℕ → List Event → List Event → List Event → List Event → Type 0
 LeadPartly b rules text accepted published accepted' published' =
     (n : ℕ) × (n ≤ 2) × ((o : Outcome) × LeadTo b rules (take n (import_of text o accepted')) accepted published accepted' published')
+
+-- a look: what is outstanding is published, and a front is given
+abbrev pub look_happenings : List Happening
+look_happenings = publish ∷ front ∷ []
+
+-- a look that wants memory: none of these, or the first
+abbrev pub LookPartly : Bounds → RuleSet → List Event → List Event → List Event → List Event → Type 0
+LookPartly b rules accepted published accepted' published' =
+    (n : ℕ) × (n ≤ 1) × LeadTo b rules (take n look_happenings) accepted published accepted' published'

@@ -1,24 +1,26 @@
 //! The desk: texts come to it one after the other, and what it accepts is kept, told and published.
-ghost use Rattle.std.specs.Prelude.{◌≡◌, ◌≢◌, ◌<◌, ◌≤◌, All, length, Err, IfOk, IfErr, IfSome, IfNone};
+ghost use Rattle.std.specs.Prelude.{◌≡◌, ◌≢◌, ◌<◌, ◌≤◌, ◌⊎◌, All, length, Err, IfOk, IfErr, OnOk, OnErr, IfSome, IfNone};
 ghost use Rattle.mt_io.specs.Faults.{Rose};
+ghost use Rattle.mt_answer.specs.Answers.{shown};
 ghost use Rattle.mt_publish.specs.States.{IsNew, IsFrontOf};
 ghost use Rattle.mt_service.specs.declared.opening.OpenRefused.TheVariants as refused;
 ghost use Rattle.mt_service.specs.Opening.{IsOpening};
 ghost use Rattle.mt_service.specs.Records.{StandFor, IsKept, ArePut};
 ghost use Rattle.mt_service.specs.Steps.{IsStep};
 ghost use Rattle.mt_service.specs.Telling.{AreTold};
-ghost use Rattle.mt_server.specs.Desks.{IfLoaded, IsUnfinished, LeadTo, LeadPartly, import_of};
+ghost use Rattle.mt_server.specs.Desks.{IfLoaded, IsUnfinished, LeadTo, LeadPartly, import_of, LookPartly, look_happenings};
+ghost use Rattle.mt_server.specs.Replies.{IsAnswer};
 
 use crate::history::{History, Prepared, prepare};
 use mt_answer::Answer;
-use mt_cells::{Bounds, RuleSet};
+use mt_cells::{Bounds, Question, RuleSet};
 use mt_derive::Event;
 use mt_feed::Feed;
 use mt_keeper::Keeper;
 use mt_publish::{Front, Viewer};
 use mt_service::{OpenRefused, Outcome};
 use mt_table::Table;
-use std::alloc::Global;
+use std::alloc::{AllocError, Global};
 use std::sync::Wait;
 
 /// The accepted list with its keeper and its publication, and the feeds that are told of it.
@@ -146,6 +148,42 @@ impl<K: Keeper> Desk<K> {
             self.new.history.accepted self.new.history.published) }
     {
         self.history.import(rt, alloc, &mut self.feeds, text)
+    }
+
+    /// Publishes what is outstanding, and answers a question over the accepted list, which is to have
+    /// `at_least` events, with a front of it. It waits for viewers that are reading, and fails only for
+    /// want of memory.
+    pub fn look<R: Wait>(
+        &mut self,
+        rt: &R,
+        alloc: Global,
+        question: &Question,
+        at_least: u64,
+    ) -> Result<Looked, AllocError>
+        ensures publication { self.new.history.publication ≡ self.old.history.publication }
+        ensures accepted { self.new.history.accepted ≡ self.old.history.accepted }
+        ensures keeper { self.new.history.keeper ≡ self.old.history.keeper }
+        ensures feeds { self.new.feeds ≡ self.old.feeds }
+        ensures front { IfOk result
+            (λ l. IsFrontOf self.old.history.publication self.old.history.accepted l.front) }
+        ensures answer { IfOk result (λ l. IsAnswer self.old.history.publication.base.bounds
+            self.old.history.publication.base.rules self.old.history.accepted question.now
+            at_least (shown l.answer)) }
+        ensures published { OnOk result
+            (self.new.history.published ≡ self.new.history.accepted) }
+        ensures happens { OnOk result (LeadTo self.old.history.publication.base.bounds
+            self.old.history.publication.base.rules look_happenings self.old.history.accepted
+            self.old.history.published self.new.history.accepted
+            self.new.history.published) }
+        ensures memory { OnErr result
+            ((self.new.history.published ≡ self.old.history.published)
+            ⊎ (self.new.history.published ≡ self.new.history.accepted)) }
+        ensures partly { OnErr result (LookPartly self.old.history.publication.base.bounds
+            self.old.history.publication.base.rules self.old.history.accepted
+            self.old.history.published self.new.history.accepted
+            self.new.history.published) }
+    {
+        self.history.look(rt, alloc, question, at_least)
     }
 
     /// Ends the publication, and gives the keeper and the feeds back. It takes no memory.

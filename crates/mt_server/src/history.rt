@@ -1,6 +1,7 @@
 //! The accepted list with its keeper and its publication.
-ghost use Rattle.std.specs.Prelude.{◌≡◌, ◌≢◌, ◌<◌, ◌≤◌, All, length, Err, IfOk, IfErr, IfSome, IfNone, MatchResult};
+ghost use Rattle.std.specs.Prelude.{◌≡◌, ◌≢◌, ◌<◌, ◌≤◌, ◌⊎◌, All, length, Err, IfOk, IfErr, OnOk, OnErr, IfSome, IfNone, MatchResult};
 ghost use Rattle.mt_io.specs.Faults.{Rose};
+ghost use Rattle.mt_answer.specs.Answers.{shown};
 ghost use Rattle.mt_publish.specs.States.{IsNew, IsFrontOf};
 ghost use Rattle.mt_service.specs.declared.opening.OpenRefused.TheVariants as refused;
 ghost use Rattle.mt_service.specs.Opening.{IsOpening};
@@ -8,9 +9,12 @@ ghost use Rattle.mt_service.specs.Records.{StandFor, IsKept, ArePut};
 ghost use Rattle.mt_service.specs.Steps.{IsStep};
 ghost use Rattle.mt_service.specs.Telling.{AreTold};
 ghost use Rattle.mt_server.specs.Desks.{IfLoaded, IsUnfinished};
+ghost use Rattle.mt_server.specs.Replies.{IsAnswer};
 
-use crate::desk::Done;
-use mt_cells::{Bounds, RuleSet};
+use crate::desk::{Done, Looked};
+use crate::replies::answer_at;
+use mt_answer::Answer;
+use mt_cells::{Bounds, Question, RuleSet};
 use mt_derive::Event;
 use mt_feed::Feed;
 use mt_keeper::Keeper;
@@ -167,6 +171,44 @@ impl<K: Keeper> History<K> {
                 front: None,
             },
         }
+    }
+
+    // Answers over the accepted list.
+    fn answered(
+        &self,
+        alloc: Global,
+        question: &Question,
+        at_least: u64,
+    ) -> Result<Answer, AllocError>
+        ensures { IfOk result (λ a. IsAnswer self.now.publication.base.bounds
+            self.now.publication.base.rules self.now.accepted question.now at_least (shown a)) }
+    {
+        answer_at(alloc, self.service.table(), question, at_least)
+    }
+
+    /// Publishes what is outstanding, and answers over the accepted list.
+    pub(crate) fn look<R: Wait>(
+        &mut self,
+        rt: &R,
+        alloc: Global,
+        question: &Question,
+        at_least: u64,
+    ) -> Result<Looked, AllocError>
+        ensures publication { self.new.publication ≡ self.old.publication }
+        ensures accepted { self.new.accepted ≡ self.old.accepted }
+        ensures keeper { self.new.keeper ≡ self.old.keeper }
+        ensures front { IfOk result
+            (λ l. IsFrontOf self.old.publication self.old.accepted l.front) }
+        ensures answer { IfOk result (λ l. IsAnswer self.old.publication.base.bounds
+            self.old.publication.base.rules self.old.accepted question.now at_least
+            (shown l.answer)) }
+        ensures published { OnOk result (self.new.published ≡ self.old.accepted) }
+        ensures memory { OnErr result ((self.new.published ≡ self.old.published)
+            ⊎ (self.new.published ≡ self.old.accepted)) }
+    {
+        let front = self.catch_up(rt, alloc)?;
+        let answer = self.answered(alloc, question, at_least)?;
+        Ok(Looked { answer, front })
     }
 
     /// Ends the publication, and gives the keeper back.

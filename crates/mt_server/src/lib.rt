@@ -8,8 +8,12 @@ pub mod laws;
 mod office;
 mod replies;
 mod requests;
+mod shared;
+#[cfg(test)]
+mod tests;
 
 pub use connection::{Ended, MOST_RESPONSES};
 pub use desk::{Desk, DeskRefused, Done, Looked, OpenDesk};
 pub use history::History;
 pub use office::Office;
+pub use shared::{LockedOffice, NamedHistory, Naming, Shared};

@@ -1,7 +1,8 @@
 //! Replies to single requests.
-ghost use Rattle.std.specs.Prelude.{◌≡◌, IfOk};
+ghost use Rattle.std.specs.Prelude.{◌≡◌, ◌<◌, ◌↔◌, length, IfOk, IsTrue};
 ghost use Rattle.serde_json.specs.Written.{compact_text};
 ghost use Rattle.serde_json.specs.View.{view};
+ghost use Rattle.mt_cells.specs.Asks.{sizes_of, IsInside};
 ghost use Rattle.mt_answer.specs.Answers.{shown};
 ghost use Rattle.mt_http.specs.Responses.{IsStatus};
 ghost use Rattle.mt_server.specs.Replies.{early_data, early_reply, IsAnswer, short_data, short_reply, outcome_status, outcome_reply, address_data, no_address, bad_method, with_reply, response_text};
@@ -26,11 +27,19 @@ pub(crate) fn answer_at(
     ensures { IfOk result (λ a. IsAnswer table.now.bounds table.now.rules table.now.events
         question.now at_least (shown a)) }
 {
-    let version = table.version();
-    if at_least > version as u64 && question.outside(table.bounds()).is_none() {
-        return early_answer(alloc, at_least, version);
+    if is_early(table, question, at_least) {
+        return early_answer(alloc, at_least, table.version());
     }
     answer(alloc, table, question)
+}
+
+// Whether the question is inside the bounds, and the table has fewer events than it is to have.
+#[tactic(auto, using(crate::proofs::ReplyLemmas::not_inside))]
+fn is_early(table: &Table, question: &Question, at_least: u64) -> bool
+    ensures { IsTrue result ↔ (IsInside table.now.bounds (sizes_of question.now)
+        × (length table.now.events < at_least)) }
+{
+    (table.version() as u64) < at_least && question.outside(table.bounds()).is_none()
 }
 
 // The answer over a table with fewer events than were asked for.

@@ -153,9 +153,10 @@ fn by_view(
     question: &Question,
     at_least: u64,
 ) -> Option<Result<Answer, AllocError>>
-    ensures viewed { IfSome result (λ answer. (E : List Event) × IsView viewer.old E viewer.new
-        × IfOk answer (λ a. IsAnswer viewer.old.publication.base.bounds
-        viewer.old.publication.base.rules E question.now at_least (shown a))) }
+    ensures view { IfSome result (λ _. IsView viewer.old viewer.new.seen viewer.new) }
+    ensures answer { IfSome result (λ answer. IfOk answer (λ a.
+        IsAnswer viewer.old.publication.base.bounds viewer.old.publication.base.rules
+        viewer.new.seen question.now at_least (shown a))) }
     ensures none { IfNone result
         (viewer.new ≡ record viewer.old { missed = next_miss viewer.old.missed }) }
 {

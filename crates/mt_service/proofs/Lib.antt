@@ -1,4 +1,5 @@
 mod AcceptLemmas
+mod BodyLemmas
 mod GateLemmas
 mod KeptLemmas
 mod LengthLemmas

@@ -61,6 +61,32 @@ conflict_data word n name = object (members (
 abbrev pub error_data : List ℕ → Data
 error_data word = object (members ((codes "error", string word) ∷ []))
 
+-- import n of this name is accepted, and so many values changed
+abbrev pub accepted_data : ℕ → List ℕ → ℕ → Data
+accepted_data n name raised = object (members (
+    (codes "import", natural n)
+    ∷ (codes "name", string name)
+    ∷ (codes "outcome", string (codes "accepted"))
+    ∷ (codes "raised", natural raised)
+    ∷ []))
+
+abbrev pub withdrawn_data : ℕ → List ℕ → ℕ → Data
+withdrawn_data n name lowered = object (members (
+    (codes "import", natural n)
+    ∷ (codes "lowered", natural lowered)
+    ∷ (codes "name", string name)
+    ∷ (codes "outcome", string (codes "withdrawn"))
+    ∷ []))
+
+-- the first dependent choice, in this part, and its combination to zero
+abbrev pub dependent_data : ℕ → List ℕ → List ℕ → Data
+dependent_data part choice coefficients = object (members (
+    (codes "choice", naturals choice)
+    ∷ (codes "coefficients", naturals coefficients)
+    ∷ (codes "error", string (codes "dependent"))
+    ∷ (codes "part", natural part)
+    ∷ []))
+
 abbrev pub outcome_data : Outcome → Data
 outcome_data (outcome.Form refused) = form_data refused
 outcome_data (outcome.NoImport name) = object (members (
@@ -86,23 +112,8 @@ outcome_data outcome.Full = object (members (
     (codes "error", string (codes "full"))
     ∷ (codes "limit", natural MOST_IMPORTS)
     ∷ []))
-outcome_data (outcome.Dependent form part choice coefficients) = object (members (
-    (codes "choice", naturals choice)
-    ∷ (codes "coefficients", naturals coefficients.digits)
-    ∷ (codes "error", string (codes "dependent"))
-    ∷ (codes "part", natural part)
-    ∷ []))
+outcome_data (outcome.Dependent form part choice coefficients) = dependent_data part choice coefficients.digits
 outcome_data outcome.KeeperFault = error_data (codes "keeper")
 outcome_data outcome.Memory = error_data (codes "memory")
-outcome_data (outcome.Accepted n name raised tried) = object (members (
-    (codes "import", natural n)
-    ∷ (codes "name", string name)
-    ∷ (codes "outcome", string (codes "accepted"))
-    ∷ (codes "raised", natural raised)
-    ∷ []))
-outcome_data (outcome.Withdrawn n name lowered tried) = object (members (
-    (codes "import", natural n)
-    ∷ (codes "lowered", natural lowered)
-    ∷ (codes "name", string name)
-    ∷ (codes "outcome", string (codes "withdrawn"))
-    ∷ []))
+outcome_data (outcome.Accepted n name raised tried) = accepted_data n name raised
+outcome_data (outcome.Withdrawn n name lowered tried) = withdrawn_data n name lowered

@@ -2,7 +2,7 @@
 use Rattle.std.specs.Prelude.{ℕ, List, [], ◌∷◌, ◌++◌, map, codes, decimal}
 use Rattle.std.specs.List.{join_with_byte}
 use Rattle.mt_system.specs.declared.claims.Form.{Form}
-use Rattle.mt_system.specs.declared.claims.Form.TheVariants.{Ooa, Net, Seq}
+use Rattle.mt_system.specs.declared.claims.Form.TheVariants.{Seq}
 use Rattle.mt_import.specs.declared.import_text.TheConstants.{MOST_BYTES}
 use Rattle.mt_import.specs.declared.refusals.FormRefused.{FormRefused}
 use Rattle.mt_import.specs.declared.refusals.FormRefused.TheVariants.{TooLong, Line}

@@ -2,6 +2,7 @@
 //! list that kept records stand for.
 #![tactic(auto)]
 
+mod bodies;
 mod checks;
 mod gate;
 pub mod laws;

@@ -38,6 +38,10 @@ IsNeeded rules i = IsNeededBy rules i.rule i.first i.second
 abbrev pub NoneNeeded : RuleSet → Rule → ℕ → ℕ → ℕ → Type 0
 NoneNeeded rules r m depth deeper = ((has_rule rules Deeper ≡ true) × (depth < min m deeper)) ⊎ ((r ≡ Product) × (has_rule rules Uuv ≡ true) × (deeper ≤ depth))
 
+-- of the other parents with m columns only those of one depth have needed instances of the stage with the cell
+abbrev pub HasOneDepth : Bounds → RuleSet → Cell → Stage → Type 0
+HasOneDepth b rules c g = (m d s : ℕ) → IsSpot b rules c g m d s → IsNeeded rules (instance_at c g m d s) → d ≡ min (depth_of c) m
+
 -- from first to last, but for skip, there are spots only, and those of all needed instances
 pub record IsPart (b : Bounds) (rules : RuleSet) (c : Cell) (g : Stage) (m d skip first last : ℕ) : Type 0 where
   pub only : (s : ℕ) → first ≤ s → s ≤ last → s ≢ skip → IsSpot b rules c g m d s

@@ -3,6 +3,7 @@
 
 mod changes;
 pub mod laws;
+mod needed_lines;
 mod published;
 mod table;
 #[cfg(test)]

@@ -6,6 +6,7 @@ ghost use Rattle.mt_table.specs.Shapes.{IsShaped, NoneBefore, ArePlaced, ArePlac
 ghost use Rattle.mt_table.specs.Starts.{StartsWithAxioms, AreSet};
 ghost use Rattle.mt_table.specs.Needs.{depth_of};
 
+use crate::needed_lines::next_line;
 use mt_cells::{
     Bounds, Cell, Instance, Line, Rule, RuleSet, Stage, Steps, conclude, lines_of_parent,
 };
@@ -175,6 +176,17 @@ impl Work {
         self.values[cell.number(self.bounds) as usize]
     }
 
+    // The same where a loop has the bounds at hand, and need not read them again.
+    #[inline(always)]
+    fn value_by(&self, bounds: Bounds, cell: Cell) -> u8
+        requires bounds { bounds ≡ self.now.bounds }
+        requires inside { InBounds bounds cell }
+        ensures value { result ≡ value_in self.now cell }
+        ensures high { result ≤ MOST_COLUMNS }
+    {
+        self.values[cell.number(bounds) as usize]
+    }
+
     // The number of the node that concludes the cell's value.
     pub(crate) fn node_number(&self, cell: Cell) -> u32
         requires { InBounds self.now.bounds cell }
@@ -259,52 +271,62 @@ impl Work {
     // Whether the parent beside the one whose instances are tried waits too. Then the instance is
     // tried when that one is taken.
     #[inline(always)]
-    fn waits_beside(&self, stage: Stage, instance: &Instance) -> bool
-        requires { IsInstance self.now.bounds self.now.rules instance.now }
+    fn waits_beside(&self, bounds: Bounds, stage: Stage, instance: &Instance) -> bool
+        requires bounds { bounds ≡ self.now.bounds }
+        requires instance { IsInstance self.now.bounds self.now.rules instance.now }
         ensures { IsTrue result → IsPropagated self.now instance.now }
     {
         match stage {
-            Stage::Second(_) => self.waits(instance.first),
-            _ => self.waits(instance.other()),
+            Stage::Second(_) => self.waits(bounds, instance.first),
+            _ => self.waits(bounds, instance.other()),
         }
     }
 
     #[inline(always)]
-    fn waits(&self, cell: Cell) -> bool
-        requires { InBounds self.now.bounds cell }
+    fn waits(&self, bounds: Bounds, cell: Cell) -> bool
+        requires bounds { bounds ≡ self.now.bounds }
+        requires inside { InBounds bounds cell }
         ensures { result ≡ get_or self.now.flags.items (number self.now.bounds cell) false }
     {
-        self.flags[cell.number(self.bounds) as usize]
+        self.flags[cell.number(bounds) as usize]
     }
 
     // Tries the instance once, unless its other parent waits, and counts it.
     #[inline(always)]
-    fn offer<L: Ledger>(&mut self, stage: Stage, instance: Instance, steps: &mut Steps<L>) -> u64
-        requires { IsInstance self.old.bounds self.old.rules instance }
+    fn offer<L: Ledger>(
+        &mut self,
+        bounds: Bounds,
+        stage: Stage,
+        instance: Instance,
+        steps: &mut Steps<L>,
+    ) -> u64
+        requires bounds { bounds ≡ self.old.bounds }
+        requires instance { IsInstance self.old.bounds self.old.rules instance }
         ensures grows { Grows self.old self.new }
         ensures propagated { IsPropagated self.new instance }
         ensures counted { steps.new ≡ steps.old + result }
         ensures once { result ≤ 1 }
     {
-        if self.waits_beside(stage, &instance) {
+        if self.waits_beside(bounds, stage, &instance) {
             return 0;
         }
-        self.conclude(instance, steps);
+        self.conclude(bounds, instance, steps);
         1
     }
 
     // Raises the target to what the instance concludes, if that is more.
     #[inline(always)]
-    fn conclude<L: Ledger>(&mut self, instance: Instance, steps: &mut Steps<L>)
-        requires { IsInstance self.old.bounds self.old.rules instance }
+    fn conclude<L: Ledger>(&mut self, bounds: Bounds, instance: Instance, steps: &mut Steps<L>)
+        requires bounds { bounds ≡ self.old.bounds }
+        requires instance { IsInstance self.old.bounds self.old.rules instance }
         ensures grows { Grows self.old self.new }
         ensures propagated { IsPropagated self.new instance }
         ensures once { steps.new ≡ steps.old + 1 }
     {
-        let first = self.value(instance.first);
-        let second = self.value(instance.other());
+        let first = self.value_by(bounds, instance.first);
+        let second = self.value_by(bounds, instance.other());
         let k = conclude(&instance, first, second, steps);
-        if self.value(instance.target) < k {
+        if self.value_by(bounds, instance.target) < k {
             self.raise(instance, k);
         }
     }
@@ -468,10 +490,11 @@ impl Work {
         ensures used { (result ≡ 0) ⊎ IsUsed line.now.stage }
     {
         let mut count = 0;
+        let bounds = self.bounds;
         for s in line.first..line.last + 1 {
             if s != line.skip {
-                let instance = line.instance(self.bounds, self.rules, cell, s);
-                count += self.offer(line.stage, instance, steps);
+                let instance = line.instance(bounds, self.rules, cell, s);
+                count += self.offer(bounds, line.stage, instance, steps);
             }
         }
         count
@@ -487,7 +510,7 @@ impl Work {
     {
         let mut count = 0;
         let mut lines = lines_of_parent(self.bounds, self.rules, cell);
-        while let Some(line) = lines.next() {
+        while let Some(line) = next_line(&mut lines) {
             count += self.try_line(cell, &line, steps);
         }
         count

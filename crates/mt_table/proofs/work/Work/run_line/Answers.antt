@@ -6,8 +6,8 @@ use Rattle.mt_table.proofs.WorkLemmas.{grows_trans}
 use Rattle.mt_table.proofs.work.Work.run_line.Goals as goal
 use Rattle.mt_table.proofs.work.Work.run_line.Goals.{then-s-line, else-s-line}
 
-pub offer-count-requires : goal.offer-count-requires
-offer-count-requires g c =
+pub offer-count-requires-clause-instance : goal.offer-count-requires-clause-instance
+offer-count-requires-clause-instance g c =
     let at = c.args.self.now in
     let line = c.args.line.now in
     rw (c.instance-instance.ensures, c.loop-s.invariant.0.bounds, c.loop-s.invariant.0.rules)

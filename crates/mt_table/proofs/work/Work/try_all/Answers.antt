@@ -35,7 +35,7 @@ loop-line-init g c = (
 
 pub overflow_add-count : goal.overflow_add-count
 overflow_add-count g c =
-    let spent : Spends c.args.self.now.bounds (key c.next.new.self.stage c.next.new.self.m c.next.new.self.depth) (c.loop-line.count + c.try_line-count.result) =
+    let spent : Spends c.args.self.now.bounds (key c.next_line.new.lines.stage c.next_line.new.lines.m c.next_line.new.lines.depth) (c.loop-line.count + c.try_line-count.result) =
     spends_line c.args.self.now.bounds _ _ c.loop-line.count c.try_line-count.result c.in-Some.line.stage c.in-Some.line.m c.in-Some.line.depth
     (rw c.loop-line.invariant.0 at c.in-Some.ensures.position) c.in-Some.ensures.after.0 c.in-Some.ensures.after.1
     (rw c.loop-line.invariant.0 at (le_trans c.try_line-count.ensures.few c.in-Some.ensures.line.last_high)) c.try_line-count.ensures.used c.loop-line.invariant.6 in
