@@ -137,7 +137,7 @@ compared_map n n' m m' P Q r en em f (inl h) =
 compared_map n n' m m' P Q r en em f (inr h) =
     subst (λ (i : ℕ). IsCompared i m' Q r) en (subst (λ (j : ℕ). IsCompared n j Q r) em (inr (h.0, f r h.1)))
 
-state : Publication Base → List Event → List (List Event) → ℕ → Viewed
+abbrev state : Publication Base → List Event → List (List Event) → ℕ → Viewed
 state p s l m = record { publication = p; seen = s; learnt = l; missed = m }
 
 same_state : (v w : Viewed) (l : List (List Event)) → w.publication ≡ v.publication → w.seen ≡ v.seen → w.learnt ≡ l → w.missed ≡ v.missed
@@ -159,8 +159,8 @@ looked_by (Ok a) v w p q k L answer compared most same is c m e f g h judged =
       L,
       same_state v w (L ∷ v.learnt) e f g h,
       inl (compared_map compared (length L) most (viewer.shown v) (λ r. r ≡ answer) (IsAnswerBy v q k L) (shown a) c m
-      (λ x here. subst (IsAnswerBy v q k L) (sym here)
-      (subst (λ (z : Publication Base). IsAnswer z.base.bounds z.base.rules L q k answer) (sym same) is)) judged),
+          (λ x here. subst (IsAnswerBy v q k L) (sym here)
+          (subst (λ (z : Publication Base). IsAnswer z.base.bounds z.base.rules L q k answer) (sym same) is)) judged),
     )
 looked_by (Err a) v w p q k L answer compared most same is c m e f g h judged =
     inl (L, same_state v w (L ∷ v.learnt) e f g h, inr refl)

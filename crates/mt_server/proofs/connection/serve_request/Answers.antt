@@ -8,5 +8,5 @@ returns-in-Err-clause-sent g c =
       a.1,
       a.2,
       memory_sent c.write_response-in-Err.result c.closes-close.result _ c.args.number (g.L.Sink.written c.args.link.now) (g.L.Sink.written c.write_response-in-Err.new.link)
-      c.memory_response.result.now a.0 c.write_response-in-Err.ensures.sent c.memory_response.ensures c.closes-close.ensures a.3,
+          c.memory_response.result.now a.0 c.write_response-in-Err.ensures.sent c.memory_response.ensures c.closes-close.ensures a.3,
     )
