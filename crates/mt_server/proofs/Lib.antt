@@ -1,5 +1,10 @@
 mod OnceLemmas
 mod InterleavingLemmas
 mod DeskLemmas
+mod ToldLemmas
+mod ExchangeLemmas
+mod RequestLemmas
+mod TurnLemmas
+mod WireLemmas
 mod OfficeLemmas
 mod ReplyLemmas

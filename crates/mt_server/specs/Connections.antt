@@ -1,5 +1,5 @@
 -- What a connection answers, what its viewer knows then, and how it ends.
-use Rattle.std.specs.Prelude.{◌≡◌, ℕ, ◌⊎◌, ◌+◌, ◌^◌, ◌-◌, ◌<◌, ◌≤◌, ◌==◌, ◌||◌, Bool, true, false, List, [], ◌∷◌, ◌++◌, length, Option, None, Some}
+use Rattle.std.specs.Prelude.{◌≡◌, ℕ, ◌⊎◌, ◌+◌, ◌^◌, ◌-◌, ◌<◌, ◌≤◌, ◌==◌, ◌||◌, if◌then◌else◌, Bool, true, false, List, [], ◌∷◌, ◌++◌, length, Option, None, Some}
 use mathlib.Core.List.{IsPrefix}
 use Rattle.mt_io.specs.Told.{WhereTold}
 use Rattle.mt_cells.specs.declared.asks.Question.{Question}
@@ -9,7 +9,6 @@ use Rattle.mt_table.specs.declared.published.Base.{Base}
 use Rattle.mt_service.specs.declared.outcomes.Outcome.{Outcome}
 use Rattle.mt_http.specs.declared.finding.Asked.{Asked}
 use Rattle.mt_http.specs.declared.finding.Asked.TheVariants as asked
-use Rattle.mt_http.specs.declared.finding.Found.{Found}
 use Rattle.mt_http.specs.Finding.{Finds, asked_for}
 use Rattle.mt_http.specs.Items.{Request, Begins}
 use Rattle.mt_http.specs.Items as item
@@ -72,7 +71,7 @@ IsAskedAnswered v asked.NoAddress body r w = (w ≡ v) × ((r ≡ no_address) �
 IsAskedAnswered v (asked.BadMethod allow) body r w = (w ≡ v) × ((r ≡ bad_method allow) ⊎ (r ≡ with_reply memory_reply))
 
 abbrev pub IsAnswered : Viewed → Request → Response → Viewed → Type 0
-IsAnswered v request r w = (found : Option Found) × Finds request.target found × IsAskedAnswered v (asked_for request.verb found) request.body r w
+IsAnswered v request r w = (found : _) × Finds request.target found × IsAskedAnswered v (asked_for request.verb found) request.body r w
 
 -- ---- one after the other
 
@@ -130,9 +129,12 @@ IsEnd ended.Write xs rest read written =
 IsEnd ended.Memory xs rest read written = (xs ≡ []) × (read ≡ []) × (written ≡ [])
 
 -- 1 for a response that says that the keeper failed
+abbrev pub keeper_fault : Response → ℕ
+keeper_fault r = if r.reply.status == 503 then 1 else 0
+
 abbrev pub keeper_faults : List Exchange → ℕ
 keeper_faults [] = 0
-keeper_faults (x ∷ xs) = (if x.response.reply.status == 503 then 1 else 0) + keeper_faults xs
+keeper_faults (x ∷ xs) = keeper_fault x.response + keeper_faults xs
 
 -- a count rose by as much as was counted, or it stands at the greatest u64
 abbrev pub Counted : ℕ → ℕ → ℕ → Type 0

@@ -3,3 +3,4 @@ pub mod Desks
 pub mod Replies
 pub mod Offices
 pub mod Connections
+pub mod Turns

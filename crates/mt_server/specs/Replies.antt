@@ -32,8 +32,11 @@ response_text r close = response r.reply.status r.reply.media r.allow r.reply.bo
 abbrev pub memory_reply : Reply
 memory_reply = record { status = 507; media = Json; body = codes "{\"error\":\"memory\"}" }
 
+abbrev pub address_data : Data
+address_data = object (members ((codes "error", string (codes "no such address")) ∷ []))
+
 abbrev pub no_address : Response
-no_address = with_reply (json_reply 404 (object (members ((codes "error", string (codes "no such address")) ∷ []))))
+no_address = with_reply (json_reply 404 address_data)
 
 abbrev pub bad_method : Allow → Response
 bad_method allow = record { reply = record { status = 405; media = Json; body = [] }; allow = Some allow }
@@ -77,12 +80,15 @@ IsAnswer b rules E question at_least reply =
 -- ---- lists that fall short
 
 -- a list of so many events was compared, and the viewer was shown more
-abbrev pub short_reply : ℕ → ℕ → Reply
-short_reply compared shown = json_reply 500 (object (members (
+abbrev pub short_data : ℕ → ℕ → Data
+short_data compared shown = object (members (
     (codes "error", string (codes "front"))
     ∷ (codes "front", natural compared)
     ∷ (codes "shown", natural shown)
-    ∷ [])))
+    ∷ []))
+
+abbrev pub short_reply : ℕ → ℕ → Reply
+short_reply compared shown = json_reply 500 (short_data compared shown)
 
 -- both numbers where a list has fewer events than the viewer was shown, else a reply with P
 abbrev pub IsCompared : ℕ → ℕ → (Reply → Type 0) → Reply → Type 0

@@ -7,6 +7,7 @@ mod history;
 pub mod laws;
 mod office;
 mod replies;
+mod requests;
 mod shared;
 #[cfg(test)]
 mod tests;
