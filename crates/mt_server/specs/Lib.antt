@@ -4,3 +4,4 @@ pub mod Replies
 pub mod Offices
 pub mod Connections
 pub mod Turns
+pub mod Workers

@@ -11,9 +11,11 @@ mod requests;
 mod shared;
 #[cfg(test)]
 mod tests;
+mod workers;
 
-pub use connection::{Ended, MOST_RESPONSES};
+pub use connection::{Ended, MOST_RESPONSES, serve_connection};
 pub use desk::{Desk, DeskRefused, Done, Looked, OpenDesk};
 pub use history::History;
 pub use office::Office;
 pub use shared::{LockedOffice, NamedHistory, Naming, Shared};
+pub use workers::{ServeEnd, Worker, WorkerEnd, serve};
