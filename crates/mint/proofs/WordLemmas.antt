@@ -54,6 +54,7 @@ pub record IsOther (word : List ℕ) : Type 0 where
   pub table : word ≢ codes "table"
   pub export : word ≢ codes "export"
   pub niederreiter : word ≢ codes "niederreiter"
+  pub generate : word ≢ codes "generate"
 
 pub value_is_other : IsOther (codes "value")
 value_is_other = record {
@@ -62,6 +63,7 @@ value_is_other = record {
   table = λ e. let differ = ap (λ (b : List ℕ). get_or b 0 0) e in omega arith;
   export = λ e. let differ = ap (λ (b : List ℕ). get_or b 0 0) e in omega arith;
   niederreiter = λ e. let differ = ap (λ (b : List ℕ). get_or b 0 0) e in omega arith;
+  generate = λ e. let differ = ap (λ (b : List ℕ). get_or b 0 0) e in omega arith;
 }
 
 pub tree_is_other : IsOther (codes "tree")
@@ -71,6 +73,7 @@ tree_is_other = record {
   table = λ e. let differ = ap (λ (b : List ℕ). get_or b 1 0) e in omega arith;
   export = λ e. let differ = ap (λ (b : List ℕ). get_or b 0 0) e in omega arith;
   niederreiter = λ e. let differ = ap (λ (b : List ℕ). get_or b 0 0) e in omega arith;
+  generate = λ e. let differ = ap (λ (b : List ℕ). get_or b 0 0) e in omega arith;
 }
 
 pub matrix_is_other : IsOther (codes "matrix")
@@ -80,6 +83,7 @@ matrix_is_other = record {
   table = λ e. let differ = ap (λ (b : List ℕ). get_or b 0 0) e in omega arith;
   export = λ e. let differ = ap (λ (b : List ℕ). get_or b 0 0) e in omega arith;
   niederreiter = λ e. let differ = ap (λ (b : List ℕ). get_or b 0 0) e in omega arith;
+  generate = λ e. let differ = ap (λ (b : List ℕ). get_or b 0 0) e in omega arith;
 }
 
 -- words whose others are no kind and sizes, and whose first is no other task's, ask for no task
@@ -98,6 +102,7 @@ asks_for_none words word rest e none other (task.Ask Export) is = other.export (
 asks_for_none words word rest e none other (task.Ask (LeastM q s k)) is = is
 asks_for_none words word rest e none other (task.Ask Version) is = is
 asks_for_none words word rest e none other (task.Niederreiter q m s) is = let first = is.1 in other.niederreiter (cc)
+asks_for_none words word rest e none other (task.Generate seed count) is = let first = is.1 in other.generate (cc)
 
 -- a question that words ask for has a text
 pub asked_has_text : (words : List (List ℕ)) (question : Question) → IsTask words (task.Ask question) → HasText question
