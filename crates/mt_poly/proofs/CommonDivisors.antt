@@ -17,7 +17,7 @@ module _ {K : Type 0} (F : Ops K) (L : HasFieldLaws F) where
   exchanged : (p q : List K) → CommonDivisor F p q → CommonDivisor F q p
   exchanged p q c = record { divisor = c.divisor; first = c.second; second = c.first; kills = λ w a b. c.kills w b a }
 
-  divides_self : (p : List K) → Divides F p p
+  pub divides_self : (p : List K) → Divides F p p
   divides_self p = (F.one ∷ [], λ w l. sym (act_one F L (act F p w) l))
 
   -- where p is x times r and c times q, and q has a constant, those of r and q are those of p and q

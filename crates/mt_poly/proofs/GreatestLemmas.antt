@@ -9,9 +9,9 @@ use Rattle.mt_linear.proofs.FieldLaws.{number_pos, add_lt, mul_lt, mul_inv, mul_
 use Rattle.mt_linear.proofs.Combination.{zero_add, zero_add_zero}
 use Rattle.mt_linear.proofs.Abstract.{Ops, HasFieldLaws, Digit, digit, digit-injective, digit-add, digit-mul, digit-neg, field_of, field_laws, null_add}
 use Rattle.mt_linear.proofs.Sums.{neg-mul}
-use Rattle.mt_poly.specs.Polynomials.{IsPolynomial, IsProduct, IsDivision, IsGreatest, IsCoprime, product_at}
+use Rattle.mt_poly.specs.Polynomials.{IsPolynomial, IsProduct, IsDivision, IsGreatest, product_at}
 use Rattle.mt_poly.proofs.Action.{poly_mul, one_mul, act_mul}
-use Rattle.mt_poly.proofs.Divisibility.{divides_product, divides_sum, unit_constant, divide_step, gcd_step}
+use Rattle.mt_poly.proofs.Divisibility.{divides_product, divides_sum, divide_step, gcd_step}
 use Rattle.mt_poly.proofs.ListLemmas.{length_top, multiple_past, sum_to_zero}
 use Rattle.mt_poly.proofs.PolynomialBridge.{elements, acts, element_at, acts_of, product_to_act, pair_to_act, pair_from_act, multiple_to_act, division_to_act, division_from_act, divides_from, divides_to}
 
@@ -42,7 +42,7 @@ module _ (o : Order) where
   division_start b r z k = sym (ap₂ (add_of o) (sum_to_zero o (suc k) _ (λ i l. mul_zero o _)) (z k) ∙ zero_add_zero o)
 
   -- the multiple that cancels the last coefficient y, where b ends with a
-  cancels : (y a : ℕ) → a < number_of o → a ≢ 0 → y < number_of o → add_of o y (mul_of o (neg_of o (mul_of o y (inv_of o a))) a) ≡ 0
+  pub cancels : (y a : ℕ) → a < number_of o → a ≢ 0 → y < number_of o → add_of o y (mul_of o (neg_of o (mul_of o y (inv_of o a))) a) ≡ 0
   cancels y a l ne m =
       digit-injective o _ 0 (add_lt o _ _) (number_pos o)
       (digit-add o y _
@@ -166,34 +166,3 @@ module _ (o : Order) where
 
       acts_d : (w : ℕ → Digit (number_of o)) (l : ℕ) → acts o d w l ≡ F.mul (digit o (inv_of o (get_or a n 0))) (acts o a w l)
       acts_d w l = multiple_to_act o [] a d (inv_of o (get_or a n 0)) (λ k. e k ∙ sym (zero_add o _ (mul_lt o _ _))) w l ∙ null_add F L _
-
-  -- ---- what the divisor says
-
-  -- no common divisor but constants, where the greatest one is 1
-  pub coprime_from_greatest : (a b u v d : List ℕ) → IsGreatest o a b u v d → length d ≡ 1 → IsCoprime o a b
-  coprime_from_greatest a b u v d greatest size c hc ca cb n l =
-      digit-injective o _ 0 (hc n) (number_pos o)
-      (sym (element_at o c n)
-      ∙ unit_constant F L (elements o c)
-      (divides_sum F L (elements o c) (F.one ∷ []) (poly_mul F (elements o u) (elements o a)) (poly_mul F (elements o v) (elements o b)) F.one
-      (divides_product F L (elements o c) (elements o u) (elements o a) (divides_to o c a ca))
-      (divides_product F L (elements o c) (elements o v) (elements o b) (divides_to o c b cb))
-      (λ w l.
-      sym (acts_of o d (F.one ∷ []) one w l)
-      ∙ pair_to_act o u a v b d greatest.sum w l
-      ∙ ap₂ F.add (sym (act_mul F L (elements o u) (elements o a) w l)) (sym (act_mul F L (elements o v) (elements o b) w l) ∙ sym (one_mul F L _))))
-      n l)
-    where
-      one : (k : ℕ) → digit o (slice_index d k) ≡ get_or (F.one ∷ []) k (digit o 0)
-      one zero =
-          let long : length d ≡ suc greatest.monic.0 = greatest.monic.1.0 in
-          ap (λ k. digit o (get_or d k 0)) {x = 0} {y = greatest.monic.0} (omega arith) ∙ ap (digit o) greatest.monic.1.1
-      one (suc k) = ap (digit o) (get_or_past d (suc k) 0 (omega arith))
-
-  pub not_coprime : (a b u v d : List ℕ) → AllElements o d → IsGreatest o a b u v d → length d ≢ 1 → IsCoprime o a b → ⊥
-  not_coprime a b u v d hd greatest size coprime =
-      let n : ℕ = greatest.monic.0 in
-      let long : length d ≡ suc n = greatest.monic.1.0 in
-      let none : get_or d n 0 ≡ 0 = coprime d hd greatest.first greatest.second n (omega arith) in
-      let top : get_or d n 0 ≡ 1 = greatest.monic.1.1 in
-      omega arith

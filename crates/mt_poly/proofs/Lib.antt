@@ -8,4 +8,5 @@ pub mod NumberLemmas
 pub mod PolynomialBridge
 pub mod CoprimeBridge
 pub mod GreatestLemmas
+pub mod CoprimalityLemmas
 pub mod MemberLemmas

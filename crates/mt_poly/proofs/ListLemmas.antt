@@ -24,6 +24,22 @@ take_elements o n xs h k = elim (cases_lt k n) [
   | inr l ↦ subst (λ z. z < number_of o) (sym (get_or_past (take n xs) k 0 (omega (arith, length-take n xs)))) (number_pos o)
 ]
 
+-- without zeros at its end a list reads the same, and is a polynomial
+pub take_trimmed : (n : ℕ) (xs : List ℕ) → ((i : ℕ) → n ≤ i → get_or xs i 0 ≡ 0) → (k : ℕ) → get_or (take n xs) k 0 ≡ get_or xs k 0
+take_trimmed n xs zeros k = elim (cases_lt k n) [
+  | inl l ↦ get_or-take n xs k 0 l
+  | inr l ↦ get_or_past (take n xs) k 0 (omega (arith, length-take n xs)) ∙ sym (zeros k l)
+]
+
+pub polynomial_trimmed : (o : Order) (n : ℕ) (xs : List ℕ) → AllElements o xs → ((i : ℕ) → n ≤ i → get_or xs i 0 ≡ 0) → (0 < n → get_or xs (n - 1) 0 ≢ 0)
+    → n ≤ length xs → IsPolynomial o (take n xs)
+polynomial_trimmed o n xs h zeros lead l = record {
+  elements = take_elements o n xs h;
+  lead = λ g z.
+      let size : length (take n xs) ≡ n = omega (arith, length-take n xs) in
+      lead (omega arith) (sym (take_trimmed n xs zeros (n - 1)) ∙ ap (λ k. get_or (take n xs) k 0) {x = n - 1} {y = length (take n xs) - 1} (omega arith) ∙ z);
+}
+
 pub zeros : (n k : ℕ) → get_or {A = ℕ} (replicate n 0) k 0 ≡ 0
 zeros n k = elim (cases_lt k n) [ inl l ↦ get_or-replicate n k 0 0 l | inr l ↦ get_or_past (replicate n 0) k 0 (omega (arith, length-replicate {A = ℕ} n 0)) ]
 

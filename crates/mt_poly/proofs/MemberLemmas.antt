@@ -17,6 +17,7 @@ use Rattle.mt_poly.proofs.Action.{poly_add, act, one_mul, act-poly_add, coef_add
 use Rattle.mt_poly.proofs.Monic.{HasDegree, monic_one, monic_mul}
 use Rattle.mt_poly.proofs.Divisibility.{poly_product, Divides, divides_product, divides_factor, divides_sum, unit_constant}
 use Rattle.mt_poly.proofs.ListLemmas.{length_top}
+use Rattle.mt_poly.proofs.CoprimalityLemmas.{divides_itself}
 use Rattle.mt_poly.proofs.NumberLemmas.{number_same, number_least}
 use Rattle.mt_poly.proofs.PolynomialBridge.{elements, acts, element_at, acts_of, numbers, numbers_in, numbers_at, degree_lifted, divides_to}
 
@@ -161,6 +162,27 @@ module _ (o : Order) where
     | inr ne ↦ omega arith
   ]
 
+  polynomial_of_member : (p : List ℕ) → IsMember o p → IsPolynomial o p
+  polynomial_of_member p h = record {
+    elements = h.0;
+    lead = λ l z.
+        let size : length p ≡ suc h.1.0 = h.1.2.0 in
+        member_apart p h (ap (λ k. get_or p k 0) {x = h.1.0} {y = length p - 1} (omega arith) ∙ z);
+  }
+
+  -- once it is kept, those that may follow have greater numbers
+  pub walk_push : (kept : List (List ℕ)) (p : List ℕ) → IsNext o kept p → (r : List ℕ) → MayFollow o (kept ++ p ∷ []) r
+      → number_by (number_of o) p + 1 ≤ number_by (number_of o) r
+  walk_push kept p next r h =
+      walk_step (kept ++ p ∷ []) p (polynomial_of_member p next.follows.0) none r h
+      (next.least r (h.0, λ k d l. subst (λ q. IsCoprime o q r) (get_or_append_left kept (p ∷ []) d k l) (h.1 k d (omega (arith, length_push kept p)))))
+    where
+      none : MayFollow o (kept ++ p ∷ []) p → ⊥
+      none f =
+          member_apart p next.follows.0
+          (subst (λ q. IsCoprime o q p) (get_or_push kept p [] (length kept) refl) (f.1 (length kept) [] (omega (arith, length_push kept p)))
+          p next.follows.0.0 (divides_itself o p next.follows.0.0) (divides_itself o p next.follows.0.0) next.follows.0.1.0 next.follows.0.1.1)
+
   -- ---- the list
 
   pub list_push : (ps : List (List ℕ)) (p : List ℕ) → IsCoprimeList o ps → IsNext o ps p → IsCoprimeList o (ps ++ p ∷ [])
@@ -184,14 +206,6 @@ module _ (o : Order) where
       ((h j m).follows.1 i d (omega (arith, length-take j ps))))
 
   -- ---- there is one list of each length
-
-  polynomial_of_member : (p : List ℕ) → IsMember o p → IsPolynomial o p
-  polynomial_of_member p h = record {
-    elements = h.0;
-    lead = λ l z.
-        let size : length p ≡ suc h.1.0 = h.1.2.0 in
-        member_apart p h (ap (λ k. get_or p k 0) {x = h.1.0} {y = length p - 1} (omega arith) ∙ z);
-  }
 
   same_next : (kept : List (List ℕ)) (p r : List ℕ) → IsNext o kept p → IsNext o kept r → p ≡ r
   same_next kept p r h g =

@@ -13,10 +13,14 @@ number_by q (x ∷ p) = x + q * number_by q p
 abbrev pub MayFollow : Order → List (List ℕ) → List ℕ → Type 0
 MayFollow o kept p = IsMember o p × All (λ k. IsCoprime o k p) kept
 
+-- none that may follow the kept ones has a lesser number
+abbrev pub IsLeast : Order → List (List ℕ) → List ℕ → Type 0
+IsLeast o kept p = (r : List ℕ) → MayFollow o kept r → number_by (number_of o) p ≤ number_by (number_of o) r
+
 -- the one with the least number that may follow the kept ones
 pub record IsNext (o : Order) (kept : List (List ℕ)) (p : List ℕ) : Type 0 where
   pub follows : MayFollow o kept p
-  pub least : (r : List ℕ) → MayFollow o kept r → number_by (number_of o) p ≤ number_by (number_of o) r
+  pub least : IsLeast o kept p
 
 -- each is the next after those before it
 abbrev pub IsCoprimeList : Order → List (List ℕ) → Type 0

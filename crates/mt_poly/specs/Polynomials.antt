@@ -1,5 +1,5 @@
 -- Polynomials over a finite field: lists of coefficients, the constant first.
-use Rattle.std.specs.Prelude.{◌≡◌, ◌≢◌, ℕ, zero, suc, ◌-◌, ◌<◌, ◌≤◌, List, [], ◌∷◌, length, slice_index}
+use Rattle.std.specs.Prelude.{◌≡◌, ◌≢◌, ℕ, zero, suc, ◌-◌, ◌<◌, ◌≤◌, ◌↔◌, List, [], ◌∷◌, length, slice_index}
 use Rattle.mt_linear.specs.declared.order.Order.{Order}
 use Rattle.mt_linear.specs.Field.{add_of, mul_of}
 use Rattle.mt_linear.specs.Linear.{AllElements}
@@ -51,6 +51,10 @@ Divides o d p = (q : List ℕ) × AllElements o q × IsProduct o q d p
 abbrev pub IsCoprime : Order → List ℕ → List ℕ → Type 0
 IsCoprime o p q =
     (d : List ℕ) → AllElements o d → Divides o d p → Divides o d q → (n : ℕ) → 1 ≤ n → slice_index d n ≡ 0
+
+-- a divisor of b divides both p and r, or neither
+abbrev pub HaveSameDivisors : Order → List ℕ → List ℕ → List ℕ → Type 0
+HaveSameDivisors o b p r = (d : List ℕ) → AllElements o d → Divides o d b → Divides o d p ↔ Divides o d r
 
 -- a is b times the quotient, and a remainder shorter than b
 pub record IsDivision (o : Order) (a b quotient remainder : List ℕ) : Type 0 where

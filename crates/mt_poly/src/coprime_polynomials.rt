@@ -2,10 +2,10 @@
 ghost use Rattle.std.specs.Prelude.{◌≡◌, ◌≢◌, ℕ, ◌+◌, ◌<◌, ◌↔◌, length, map, All, AllPairs, IsTrue, IfOk};
 ghost use Rattle.mt_linear.specs.Field.{number_of};
 ghost use Rattle.mt_poly.specs.Polynomials.{IsCoprime, IsMember, IsPolynomial};
-ghost use Rattle.mt_poly.specs.CoprimeLists.{IsCoprimeList, IsNext, MayFollow};
+ghost use Rattle.mt_poly.specs.CoprimeLists.{IsCoprimeList, IsLeast, IsNext, MayFollow};
 
 use crate::Poly;
-use crate::euclid::gcd;
+use crate::coprimality::are_coprime;
 use mt_linear::Order;
 use std::alloc::{AllocError, Global};
 
@@ -21,22 +21,32 @@ pub fn coprime_list(alloc: Global, order: Order, count: u32) -> Result<Vec<Poly>
         (map (λ p. p.coefficients) v.items)) }
 {
     let mut list = Vec::with_capacity(alloc, count as usize)?;
+    let mut candidate = Poly::of_number(alloc, order, order.number() as u64)?;
     for _ in 0..count {
-        let next = next_member(alloc, order, &list)?;
+        let next = next_member(alloc, order, &list, candidate)?;
+        candidate = next.copy()?.next()?;
         list.push(next)?;
     }
     Ok(list)
 }
 
-// The next member after those kept.
-fn next_member(alloc: Global, order: Order, kept: &[Poly]) -> Result<Poly, AllocError>
+// The next member after those kept, from a candidate on that none of those which may follow has a
+// lesser number than.
+fn next_member(
+    alloc: Global,
+    order: Order,
+    kept: &[Poly],
+    candidate: Poly,
+) -> Result<Poly, AllocError>
     requires orders { All (λ p. p.order ≡ order) kept.now }
     requires members { All (IsMember order) (map (λ p. p.coefficients) kept.now) }
+    requires candidate_order { candidate.order ≡ order }
+    requires least { IsLeast order (map (λ p. p.coefficients) kept.now) candidate.coefficients }
     ensures order { IfOk result (λ p. p.order ≡ order) }
     ensures next { IfOk result (λ p. IsNext order (map (λ p. p.coefficients) kept.now)
         p.coefficients) }
 {
-    let mut candidate = Poly::of_number(alloc, order, order.number() as u64)?;
+    let mut candidate = candidate;
     loop {
         if may_follow(alloc, order, kept, &candidate)? {
             return Ok(candidate);
@@ -63,9 +73,11 @@ fn may_follow(
     if length < 2 || coefficients[length - 1] != 1 {
         return Ok(false);
     }
+    let mut dividend = Vec::with_capacity(alloc, length)?;
+    let mut divisor = Vec::with_capacity(alloc, length)?;
     for poly in kept {
-        let found = gcd(alloc, poly, candidate)?;
-        if found.divisor.coefficients().len() != 1 {
+        let member = poly.coefficients();
+        if !are_coprime(order, member, coefficients, &mut dividend, &mut divisor)? {
             return Ok(false);
         }
     }

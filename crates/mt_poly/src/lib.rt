@@ -3,6 +3,7 @@
 #![tactic(auto)]
 
 mod arithmetic;
+mod coprimality;
 mod coprime_polynomials;
 mod division;
 mod divisors;

@@ -44,6 +44,23 @@ pub fn add_multiple(order: Order, target: &mut [u8], factor: u8, source: &[u8])
     }
 }
 
+// Adds `factor` times `source` to `target` from `place` on.
+pub fn add_multiple_at(order: Order, target: &mut [u8], place: usize, factor: u8, source: &[u8])
+    requires factor_in { factor < number_of order }
+    requires target_in { AllElements order target.old }
+    requires source_in { AllElements order source.now }
+    requires room { place + length source.now ≤ length target.old }
+    ensures before { (i : ℕ) → i < place → slice_index target.new i ≡ slice_index target.old i }
+    ensures sum { (i : ℕ) → slice_index target.new (place + i) ≡ add_of order
+        (slice_index target.old (place + i)) (mul_of order factor (slice_index source.now i)) }
+    ensures elements { AllElements order target.new }
+{
+    for i in 0..source.len() {
+        let sum = order.add(target[place + i], order.mul(factor, source[i]));
+        target[place + i] = sum;
+    }
+}
+
 // `a`, and `factor` times `b`.
 pub fn with_multiple(
     alloc: Global,

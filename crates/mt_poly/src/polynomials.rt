@@ -74,6 +74,16 @@ impl Poly {
         })
     }
 
+    /// The same polynomial once more.
+    pub(crate) fn copy(&self) -> Result<Poly, AllocError>
+        ensures { IfOk result (λ p. p ≡ self.now) }
+    {
+        Ok(Poly {
+            order: self.order,
+            coefficients: self.coefficients.clone()?,
+        })
+    }
+
     /// The order of its field.
     pub fn order(&self) -> Order
         ensures { result ≡ self.now.order }
