@@ -14,7 +14,7 @@ use Rattle.mt_cells.specs.declared.asks.Question.TheVariants.{Value, Tree, Matri
 use Rattle.mt_answer.specs.Answers.{HasText}
 use Rattle.mint.specs.declared.words.Task.{Task}
 use Rattle.mint.specs.declared.words.Task.TheVariants as task
-use Rattle.mint.specs.Words.{bounds_word, IsAskFor, IsTask}
+use Rattle.mint.specs.Words.{bounds_word, IsAskFor, AreTwo, AreSeedAndCount, IsTask}
 
 pub own : IsNumeralModel (AllDigits 10) (digits_value 10)
 own = numerals_by_value (AllDigits 10) tells_digits
@@ -46,6 +46,14 @@ bounds_read word prefix back m s whole prefix_is back_is small low cut None take
     absurd (false≢true (taken.1 (same_bounds b m s small low (sym prefix_is ∙ parts.0) (sym back_is ∙ parts.1))))
 bounds_read word prefix back m s whole prefix_is back_is small low cut (Some b) taken m_is s_is =
     whole ∙ ap₂ (λ (x y : List ℕ). x ++ 44 ∷ y) (prefix_is ∙ ap decimal (sym m_is)) (back_is ∙ ap decimal (sym s_is))
+
+-- words that are two numbers are no other seed and count
+pub same_count : (words : List (List ℕ)) (q m seed count : ℕ) → AreTwo words q m → AreSeedAndCount words seed count → count ≡ m
+same_count words q m seed count two is =
+    let first = two.2 in
+    let then = is.3 in
+    let same : decimal count ≡ decimal m = cc in
+    decimal_injective count m (omega (arith, is.2)) two.1 same
 
 -- the word is none of those with which other tasks begin
 pub record IsOther (word : List ℕ) : Type 0 where

@@ -1,5 +1,5 @@
 //! Generated claims, which are imported one after the other.
-ghost use Rattle.std.specs.Prelude.{◌≡◌, ◌≢◌, ◌≤◌, ◌<◌, ◌+◌, ◌-◌, ◌^◌, ◌⊎◌, ℕ, List, Option, min, length, map, take, All, IsSome, IfOk, IfErr, IsErrOf};
+ghost use Rattle.std.specs.Prelude.{◌≡◌, ◌≢◌, ◌≤◌, ◌<◌, ◌+◌, ◌++◌, ◌-◌, ◌^◌, ◌⊎◌, ℕ, List, Option, [], min, length, map, take, decimal, All, IsSome, IfOk, OnOk, IfErr, IsErrOf};
 ghost use Rattle.mt_io.specs.Faults.{Rose};
 ghost use Rattle.mt_system.specs.Statements.{statement_of};
 ghost use Rattle.mt_import.specs.Canonical.{canonical_text};
@@ -83,17 +83,31 @@ impl Tally {
         ensures { IfOk result (λ text. text.items ≡ tally_text count self.now.accepted
             self.now.already self.now.refused score self.now.tried) }
     {
-        let Tally {
-            accepted,
-            already,
-            refused,
-            tried,
-        } = *self;
-        let text = format!(in alloc;
-            "generated {count}: accepted {accepted}, already {already}, refused {refused}, score {score}, tried {tried}\n"
-        )?;
-        Ok(text.into_bytes())
+        let mut text = Vec::new(alloc);
+        push_count(alloc, &mut text, b"generated ", count as u64)?;
+        push_count(alloc, &mut text, b": accepted ", self.accepted as u64)?;
+        push_count(alloc, &mut text, b", already ", self.already as u64)?;
+        push_count(alloc, &mut text, b", refused ", self.refused as u64)?;
+        push_count(alloc, &mut text, b", score ", score)?;
+        push_count(alloc, &mut text, b", tried ", self.tried)?;
+        text.push(b'\n')?;
+        Ok(text)
     }
+}
+
+// Adds the words, and the number in decimal.
+fn push_count(
+    alloc: Global,
+    text: &mut Vec<u8>,
+    words: &[u8],
+    number: u64,
+) -> Result<(), AllocError>
+    ensures { OnOk result (text.new.items ≡ text.old.items ++ words.now ++ decimal number) }
+{
+    let digits = format!(in alloc; "{number}")?;
+    text.extend_from_slice(words)?;
+    text.extend_from_slice(digits.as_bytes())?;
+    Ok(())
 }
 
 /// The answer for the first `count` claims of the seed, which are imported one after the other.

@@ -2,7 +2,6 @@ use Rattle.std.proofs.Common.{◌≡◌, ◌+◌, ◌≤◌}
 use Rattle.mt_service.specs.Records.{IsKept, ArePut}
 use Rattle.mt_service.specs.Telling.{AreTold}
 use Rattle.mint.proofs.GeneratingLemmas.{HaveCome}
-use Rattle.mint.specs.contracts.generating.import_claims.{dyn-1-ghosts}
 use Rattle.mint.proofs.generating.import_claims.Given as goal
 
 abbrev pub invariant-loop-claim : goal.invariant-loop-claim
@@ -14,7 +13,7 @@ invariant-loop-claim g l = record {
   put : ArePut (g.K.Keeper.records l.fn.keeper) (g.K.Keeper.records l.keeper) l.fn.service.events l.service.events;
   kept : IsKept l.fn.service.bounds (g.K.Keeper.records l.keeper) l.service.events;
   told : AreTold l.fn.service.bounds l.fn.service.rules
-      (λ b. ((dyn-1-ghosts g.dyn-1).0.entry b.vtable).1.told b.value)
-      (λ b. ((dyn-1-ghosts g.dyn-1).0.entry b.vtable).1.failures b.value) l.fn.service.events l.service.events l.fn.feeds.items l.feeds.items;
+      (λ b. (goal.Feed-dyn g (b.vtable, b.value)).told b.value)
+      (λ b. (goal.Feed-dyn g (b.vtable, b.value)).failures b.value) l.fn.service.events l.service.events l.fn.feeds.items l.feeds.items;
   later : g.K.Keeper.faults l.fn.keeper ≤ g.K.Keeper.faults l.keeper;
 }
