@@ -1,7 +1,11 @@
 use Rattle.std.proofs.Common.{◌∙◌, refl, sym, arith, subst}
 use Rattle.std.proofs.lemmas.Result.{err_from_is_err_and}
+use Rattle.mt_system.specs.declared.claims.Claim.{Claim}
+use Rattle.mt_system.specs.Statements.{statement_of}
 use Rattle.mt_cells.specs.declared.bounds.Bounds.{Bounds}
+use Rattle.mt_import.specs.Canonical.{canonical_text}
 use Rattle.mt_service.specs.Records.{IsKept}
+use Rattle.mt_service.specs.Steps.{IsStep}
 use Rattle.mint.proofs.ChainLemmas.{left_same, left_put, told_none}
 use Rattle.mint.proofs.GrowthLemmas.{put_both, told_both}
 use Rattle.mint.proofs.GeneratingLemmas.{one_counted, none_come, one_comes, first_came, all_came}
@@ -36,11 +40,12 @@ loop-claim-preserved g c =
     let o = c.in_ok-outcome.outcome in
     let L = c.loop-claim.service.events in
     let M = c.import_claim.new.service.events in
+    let item = c.claim-item.result in
     record {
       bounds = did.bounds ∙ i.bounds;
       rules = did.rules ∙ i.rules;
-      come = one_comes s.bounds s.rules s.events c.args.claims.now c.loop-claim.claim-index _ L c.loop-claim.tally o M c.count.new.self
-          (omega (arith, c.loop-claim-test.true)) i.come (rw (i.bounds, i.rules) at did.step) did.going
+      come = one_comes s.bounds s.rules s.events c.args.claims.now c.loop-claim.claim-index item L c.loop-claim.tally o M c.count.new.self
+          (omega (arith, c.loop-claim-test.true)) i.come (subst (λ (x : Claim). IsStep s.bounds s.rules L (canonical_text (statement_of x)) o M) c.claim-item.is (rw (i.bounds, i.rules) at did.step)) did.going
           record { accepted = counted.accepted; already = counted.already; refused = counted.refused; tried = counted.tried };
       counted = omega (arith, i.counted, counted.accepted, counted.already, counted.refused, one_counted o);
       put = put_both s.bounds (g.K.Keeper.records c.args.keeper.now) (g.K.Keeper.records c.loop-claim.keeper) (g.K.Keeper.records c.import_claim.new.keeper)
