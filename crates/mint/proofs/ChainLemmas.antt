@@ -35,7 +35,7 @@ left_where None (Some b) A e w = absurd w
 left_where (Some a) None A e w = tt
 left_where (Some a) (Some b) A e w = w ∙ ap (λ (l : List (List ℕ)). a ++ l) e ∙ append-nil a
 
-where_both : (x y z : Records) (A B : List (List ℕ)) → WhereTold x y (λ old new. new ≡ old ++ A) → WhereTold y z (λ old new. new ≡ old ++ B)
+pub where_both : (x y z : Records) (A B : List (List ℕ)) → WhereTold x y (λ old new. new ≡ old ++ A) → WhereTold y z (λ old new. new ≡ old ++ B)
     → WhereTold x z (λ old new. new ≡ old ++ (A ++ B))
 where_both None None None A B v w = tt
 where_both None None (Some c) A B v w = absurd w
@@ -108,7 +108,7 @@ grows_on b x y z E M grows put = record {
 -- ---- what feeds are told
 
 module _ {F : Type 0} (b : Bounds) (rules : RuleSet) (told : F → Option (List ℕ)) (failures : F → ℕ) where
-  abbrev Fare : List Event → List Event → F → F → Type 0
+  abbrev pub Fare : List Event → List Event → F → F → Type 0
   Fare E G f g = (lines : List ℕ) × AreLines b rules E G lines × Fares told failures lines f g
 
   fare_same : (E : List Event) (fs : List F) → AllZip (Fare E []) fs fs

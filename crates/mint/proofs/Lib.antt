@@ -1,6 +1,8 @@
 mod ChainLemmas
 mod DoingLemmas
 mod DoneLemmas
+mod GeneratingLemmas
+mod GrowthLemmas
 mod InputLemmas
 mod RunLemmas
 mod WordLemmas

@@ -14,7 +14,7 @@ use Rattle.mt_cells.specs.declared.asks.Question.TheVariants.{Value, Tree, Matri
 use Rattle.mt_answer.specs.Answers.{HasText}
 use Rattle.mint.specs.declared.words.Task.{Task}
 use Rattle.mint.specs.declared.words.Task.TheVariants as task
-use Rattle.mint.specs.Words.{bounds_word, IsAskFor, IsTask}
+use Rattle.mint.specs.Words.{bounds_word, IsAskFor, AreTwo, AreSeedAndCount, IsTask}
 
 pub own : IsNumeralModel (AllDigits 10) (digits_value 10)
 own = numerals_by_value (AllDigits 10) tells_digits
@@ -47,6 +47,14 @@ bounds_read word prefix back m s whole prefix_is back_is small low cut None take
 bounds_read word prefix back m s whole prefix_is back_is small low cut (Some b) taken m_is s_is =
     whole ∙ ap₂ (λ (x y : List ℕ). x ++ 44 ∷ y) (prefix_is ∙ ap decimal (sym m_is)) (back_is ∙ ap decimal (sym s_is))
 
+-- words that are two numbers are no other seed and count
+pub same_count : (words : List (List ℕ)) (q m seed count : ℕ) → AreTwo words q m → AreSeedAndCount words seed count → count ≡ m
+same_count words q m seed count two is =
+    let first = two.2 in
+    let then = is.3 in
+    let same : decimal count ≡ decimal m = cc in
+    decimal_injective count m (omega (arith, is.2)) two.1 same
+
 -- the word is none of those with which other tasks begin
 pub record IsOther (word : List ℕ) : Type 0 where
   pub check : word ≢ codes "check"
@@ -54,6 +62,7 @@ pub record IsOther (word : List ℕ) : Type 0 where
   pub table : word ≢ codes "table"
   pub export : word ≢ codes "export"
   pub niederreiter : word ≢ codes "niederreiter"
+  pub generate : word ≢ codes "generate"
 
 pub value_is_other : IsOther (codes "value")
 value_is_other = record {
@@ -62,6 +71,7 @@ value_is_other = record {
   table = λ e. let differ = ap (λ (b : List ℕ). get_or b 0 0) e in omega arith;
   export = λ e. let differ = ap (λ (b : List ℕ). get_or b 0 0) e in omega arith;
   niederreiter = λ e. let differ = ap (λ (b : List ℕ). get_or b 0 0) e in omega arith;
+  generate = λ e. let differ = ap (λ (b : List ℕ). get_or b 0 0) e in omega arith;
 }
 
 pub tree_is_other : IsOther (codes "tree")
@@ -71,6 +81,7 @@ tree_is_other = record {
   table = λ e. let differ = ap (λ (b : List ℕ). get_or b 1 0) e in omega arith;
   export = λ e. let differ = ap (λ (b : List ℕ). get_or b 0 0) e in omega arith;
   niederreiter = λ e. let differ = ap (λ (b : List ℕ). get_or b 0 0) e in omega arith;
+  generate = λ e. let differ = ap (λ (b : List ℕ). get_or b 0 0) e in omega arith;
 }
 
 pub matrix_is_other : IsOther (codes "matrix")
@@ -80,6 +91,7 @@ matrix_is_other = record {
   table = λ e. let differ = ap (λ (b : List ℕ). get_or b 0 0) e in omega arith;
   export = λ e. let differ = ap (λ (b : List ℕ). get_or b 0 0) e in omega arith;
   niederreiter = λ e. let differ = ap (λ (b : List ℕ). get_or b 0 0) e in omega arith;
+  generate = λ e. let differ = ap (λ (b : List ℕ). get_or b 0 0) e in omega arith;
 }
 
 -- words whose others are no kind and sizes, and whose first is no other task's, ask for no task
@@ -98,6 +110,7 @@ asks_for_none words word rest e none other (task.Ask Export) is = other.export (
 asks_for_none words word rest e none other (task.Ask (LeastM q s k)) is = is
 asks_for_none words word rest e none other (task.Ask Version) is = is
 asks_for_none words word rest e none other (task.Niederreiter q m s) is = let first = is.1 in other.niederreiter (cc)
+asks_for_none words word rest e none other (task.Generate seed count) is = let first = is.1 in other.generate (cc)
 
 -- a question that words ask for has a text
 pub asked_has_text : (words : List (List ℕ)) (question : Question) → IsTask words (task.Ask question) → HasText question

@@ -1,6 +1,8 @@
 pub mod Input
 pub mod Output
 pub mod Store
+pub mod Generating
+pub mod Tallies
 pub mod Run
 pub mod Doing
 pub mod Starts

@@ -29,6 +29,7 @@ use Rattle.mint.specs.declared.status.Status.TheVariants.{Ok, Memory, Words, Ref
 use Rattle.mint.specs.declared.words.Task.{Task}
 use Rattle.mint.specs.declared.words.Task.TheVariants as task
 use Rattle.mint.specs.declared.words.Command.{Command}
+use Rattle.mint.specs.Generating.{IsGeneratedRun, IsPartlyGenerated}
 use Rattle.mint.specs.Input.{IsInput}
 use Rattle.mint.specs.Output.{Wrote, WrotePrefix}
 use Rattle.mint.specs.Statuses.{status_of}
@@ -94,10 +95,13 @@ module _ (b : Bounds) (rules : RuleSet) where
       (IsOpened b before after E M status output ((status ≡ Ok) × IsTextFor b rules E question output))
   Does task.Import before after E M status output =
       IsOpened b before after E M status output ((o : Outcome) × IsImported before after E M o × (status_of o ≡ Some status) × (output ≡ outcome_text o))
+  Does (task.Generate seed count) before after E M status output =
+      IsOpened b before after E M status output ((status ≡ Ok) × IsGeneratedRun b rules seed count E M output)
 
-  -- what it may have done before it was given up: nothing, or an import for whose line there was no memory
+  -- what it may have done before it was given up: nothing, or an import for whose line there was no memory, or the imports of some claims
   abbrev pub DoesPart : Task → World → World → List Event → List Event → Status → Type 0
   DoesPart task.Import before after E M status = (status ≡ Memory) × (o : Outcome) × IsImported before after E M o
+  DoesPart (task.Generate seed count) before after E M status = ((status ≡ Memory) ⊎ (status ≡ KeeperFault)) × IsPartlyGenerated b rules seed count E M
   DoesPart task before after E M status = ⊥
 
 -- ---- how a command ends

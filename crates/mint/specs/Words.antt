@@ -1,11 +1,12 @@
 -- The words of commands.
-use Rattle.std.specs.Prelude.{◌≡◌, ℕ, ◌^◌, ◌<◌, List, [], ◌∷◌, ◌++◌, codes, decimal}
+use Rattle.std.specs.Prelude.{◌≡◌, ℕ, ◌^◌, ◌<◌, ◌≤◌, List, [], ◌∷◌, ◌++◌, codes, decimal}
 use Rattle.mt_cells.specs.declared.bounds.Bounds.{Bounds}
 use Rattle.mt_cells.specs.declared.asks.Kind.{Kind}
 use Rattle.mt_cells.specs.declared.asks.Kind.TheVariants.{Ooa}
 use Rattle.mt_cells.specs.declared.asks.Ask.{Ask}
 use Rattle.mt_cells.specs.declared.asks.Question.TheVariants.{Value, Tree, Matrix, Table, Export}
 use Rattle.mt_cells.specs.Texts.{kind_text}
+use Rattle.mint.specs.declared.words.TheConstants.{MOST_GENERATED}
 use Rattle.mint.specs.declared.words.Task.{Task}
 use Rattle.mint.specs.declared.words.Task.TheVariants as task
 use Rattle.mint.specs.declared.words.Command.{Command}
@@ -42,6 +43,10 @@ AreTwo words q m = (q < 2 ^ 64) × (m < 2 ^ 64) × (words ≡ decimal q ∷ deci
 abbrev pub AreThree : List (List ℕ) → ℕ → ℕ → ℕ → Type 0
 AreThree words q m s = (q < 2 ^ 64) × (m < 2 ^ 64) × (s < 2 ^ 64) × (words ≡ decimal q ∷ decimal m ∷ decimal s ∷ [])
 
+-- these words are a seed and how many claims
+abbrev pub AreSeedAndCount : List (List ℕ) → ℕ → ℕ → Type 0
+AreSeedAndCount words seed count = (seed < 2 ^ 64) × (1 ≤ count) × (count ≤ MOST_GENERATED) × (words ≡ decimal seed ∷ decimal count ∷ [])
+
 -- the first word is this one, and P holds of those behind it
 abbrev pub IsBehind : List ℕ → (List (List ℕ) → Type 0) → List (List ℕ) → Type 0
 IsBehind word P words = (rest : List (List ℕ)) × (words ≡ word ∷ rest) × P rest
@@ -57,6 +62,7 @@ IsTask words (task.Ask (Table q m)) = IsBehind (codes "table") (λ rest. AreTwo 
 IsTask words (task.Ask Export) = words ≡ codes "export" ∷ []
 IsTask words (task.Ask question) = ⊥
 IsTask words (task.Niederreiter q m s) = IsBehind (codes "niederreiter") (λ rest. AreThree rest q m s) words
+IsTask words (task.Generate seed count) = IsBehind (codes "generate") (λ rest. AreSeedAndCount rest seed count) words
 
 -- the words of a command: its bounds, and then its task
 pub record IsCommand (words : List (List ℕ)) (c : Command) : Type 0 where

@@ -14,6 +14,7 @@ ghost use Rattle.mint.specs.Doing.{AllRules, IsDone, IsStopped, status_given_up}
 ghost use Rattle.mint.specs.Run.{World, IsCheck, IsReply, sequence_sizes, IsSequenceFor, Does, ReadsInput, OpensStore, IsFinished, IsCutOff, IsGivenUp, LeavesInput, LeavesStore};
 
 use crate::causes::Cause;
+use crate::generating::generated_all;
 use crate::input::read_input;
 use crate::sequences::sequence_lines;
 use crate::status::Status;
@@ -44,8 +45,10 @@ pub const MOST_READ: usize = MOST_BYTES + 1;
 /// that a derivation has for a cell over the records, `M,S tree` and the same question a derivation
 /// with this value, and `M,S matrix` the generator matrices that it makes, as an import text.
 /// `M,S table` and `M,S export` write the values of many cells, and `M,S niederreiter` the generator
-/// matrices of a sequence, as an import text. Where a number is outside the bounds, they write the first such number instead, and
-/// open no store; where the records are refused, they write why. All other words give the usage.
+/// matrices of a sequence, as an import text. `M,S generate` imports the claims of a seed one after
+/// the other, and writes how many came to what and the sum of all values. Where a number is outside
+/// the bounds, they write the first such number instead, and open no store; where the records are
+/// refused, they write why. All other words give the usage.
 /// What is written is written once the answer is known.
 pub fn run_command<K: Keeper, R: Source, W: Sink>(
     alloc: Global,
@@ -140,6 +143,9 @@ fn done<K: Keeper, R: Source>(
         Task::Ask(question) => answered(alloc, bounds, rules, keeper, &question),
         Task::Import => imported(alloc, bounds, rules, keeper, feeds, input),
         Task::Niederreiter { q, m, s } => Ok(sequence_made(alloc, bounds, q, m, s)?),
+        Task::Generate { seed, count } => {
+            generated_all(alloc, bounds, rules, keeper, feeds, seed, count)
+        }
     }
 }
 

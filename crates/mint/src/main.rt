@@ -5,6 +5,7 @@ mod causes;
 mod command;
 #[cfg(test)]
 mod event_tests;
+mod generating;
 mod input;
 #[cfg(test)]
 mod sequence_tests;

@@ -13,6 +13,8 @@ const IMPORT: &[&str] = &["4,8", "import"];
 
 const VALUE: &[&str] = &["4,8", "value", "net", "2", "4", "7"];
 
+const GENERATE: &[&str] = &["1,1", "generate", "7", "3"];
+
 const WITHDRAW: &[u8] = b"withdraw caps7\n";
 
 const RAISED: &[u8] = b"accepted 1 caps7: raised 5\n";
@@ -135,6 +137,65 @@ fn withdrawals_are_kept(rt: HostRuntime) -> Result<(), Fail> {
         ),
     ];
     assert_runs(&rt, alloc, &mut empty(alloc), &mut Vec::new(alloc), &cases)
+}
+
+#[test]
+fn generated_claims_are_kept(rt: HostRuntime) -> Result<(), Fail> {
+    let alloc = rt.alloc();
+    let cases: [Case<'_>; 2] = [
+        (
+            GENERATE,
+            b"",
+            Status::Ok,
+            b"generated 3: accepted 3, already 0, refused 0, score 14, tried 0\n",
+        ),
+        (
+            GENERATE,
+            b"",
+            Status::Ok,
+            b"generated 3: accepted 0, already 3, refused 0, score 14, tried 0\n",
+        ),
+    ];
+    assert_runs(&rt, alloc, &mut empty(alloc), &mut Vec::new(alloc), &cases)
+}
+
+// Another claim has the name of the first.
+#[test]
+fn a_generated_claim_is_refused(rt: HostRuntime) -> Result<(), Fail> {
+    let alloc = rt.alloc();
+    let cases: [Case<'_>; 2] = [
+        (
+            &["1,1", "import"],
+            b"ooa 2 1 1 1 1 g-7-1\n1\n",
+            Status::Ok,
+            b"accepted 1 g-7-1: raised 0\n",
+        ),
+        (
+            GENERATE,
+            b"",
+            Status::Ok,
+            b"generated 3: accepted 2, already 0, refused 1, score 14, tried 0\n",
+        ),
+    ];
+    assert_runs(&rt, alloc, &mut empty(alloc), &mut Vec::new(alloc), &cases)
+}
+
+// The put of the second claim fails, and the first stays.
+#[test]
+fn a_failing_keeper_of_generated_claims(rt: HostRuntime) -> Result<(), Fail> {
+    let alloc = rt.alloc();
+    let failing = Vec::from_slice(alloc, &[3])?;
+    let mut keeper = MemoryKeeper::new(Records::new(Vec::new(alloc)), failing);
+    let cases: [Case<'_>; 2] = [
+        (GENERATE, b"", Status::KeeperFault, b""),
+        (
+            GENERATE,
+            b"",
+            Status::Ok,
+            b"generated 3: accepted 2, already 1, refused 0, score 14, tried 0\n",
+        ),
+    ];
+    assert_runs(&rt, alloc, &mut keeper, &mut Vec::new(alloc), &cases)
 }
 
 // The first load fails, and the put of the second import.

@@ -2,6 +2,7 @@
 use crate::command::run_command;
 use crate::start::{Start, Store, start_of};
 use crate::status::Status;
+use crate::words::{Task, read_words};
 use mt_io::{MemorySink, MemorySource, Sink, Source, SteadySink, SteadySource};
 use mt_keeper::{Records, SteadyKeeper};
 use std::alloc::{AllocError, Global};
@@ -275,10 +276,25 @@ fn other_words_get_the_usage(rt: HostRuntime) -> Result<(), Fail> {
         &["4,8", "matrix", "net", "2", "3", "18446744073709551616"],
         &["4,8", "table", "net", "2", "3"],
         &["4,8", "niederreiter", "2", "3"],
+        &["4,8", "generate", "7", "0"],
+        &["4,8", "generate", "7", "1025"],
+        &["4,8", "generate", "18446744073709551616", "1"],
     ] {
         let answer = run(rt.alloc(), texts, ONE, 7)?;
         assert_eq!(rt; answer.0, Status::Words);
         assert_eq!(rt; answer.1.as_slice(), USAGE);
+    }
+    Ok(())
+}
+
+#[test]
+fn seeds_and_counts_at_their_limits(rt: HostRuntime) -> Result<(), Fail> {
+    for (seed, text) in [(0, "0"), (u64::MAX, "18446744073709551615")] {
+        for (count, number) in [(1, "1"), (1024, "1024")] {
+            let words = words(rt.alloc(), &["4,8", "generate", text, number])?;
+            let task = read_words(&words).map(|command| command.task);
+            assert_eq!(rt; task, Some(Task::Generate { seed, count }));
+        }
     }
     Ok(())
 }

@@ -4,9 +4,12 @@ ghost use Rattle.mt_cells.specs.declared.bounds.Bounds.{Bounds};
 ghost use Rattle.mt_cells.specs.declared.asks.Ask.{Ask};
 ghost use Rattle.mint.specs.declared.words.Task.{Task};
 ghost use Rattle.mint.specs.declared.words.Command.{Command};
-ghost use Rattle.mint.specs.Words.{bounds_word, IsSizes, IsAskFor, AreTwo, AreThree, IsTask, IsCommand};
+ghost use Rattle.mint.specs.Words.{bounds_word, IsSizes, IsAskFor, AreTwo, AreThree, AreSeedAndCount, IsTask, IsCommand};
 
 use mt_cells::{Ask, Bounds, Kind, Question, plain_number};
+
+/// The most claims that one command generates.
+pub const MOST_GENERATED: u32 = 1024;
 
 /// A command, and the bounds of the table.
 #[derive(Clone, Copy, PartialEq, Eq, Debug)]
@@ -26,6 +29,8 @@ pub enum Task {
     Import,
     /// Write Niederreiter's matrices over the field of q elements, of m columns, for s coordinates.
     Niederreiter { q: u64, m: u64, s: u64 },
+    /// Import so many claims that follow from the seed: 1 to [`MOST_GENERATED`].
+    Generate { seed: u64, count: u32 },
 }
 
 /// The command of these words, or `None` where they have no form:
@@ -36,7 +41,8 @@ pub enum Task {
 /// - `M,S table Q M`;
 /// - `M,S export`;
 /// - `M,S import`;
-/// - `M,S niederreiter Q M S`.
+/// - `M,S niederreiter Q M S`;
+/// - `M,S generate SEED COUNT`, COUNT being 1 to [`MOST_GENERATED`].
 ///
 /// `M,S` are bounds. A number is decimal, without sign and without a zero in front but for `0`
 /// itself, and is below 2^64.
@@ -99,6 +105,10 @@ fn read_task(words: &[String]) -> Option<Task>
             let (q, m, s) = read_three(words)?;
             Some(Task::Niederreiter { q, m, s })
         }
+        "generate" => {
+            let (seed, count) = read_seed_and_count(words)?;
+            Some(Task::Generate { seed, count })
+        }
         _ => None,
     }
 }
@@ -129,6 +139,19 @@ fn read_three(words: &[String]) -> Option<(u64, u64, u64)>
     let (q, words) = first_number(words)?;
     let (m, s) = read_two(words)?;
     Some((q, m, s))
+}
+
+// The seed and the count that the words are.
+fn read_seed_and_count(words: &[String]) -> Option<(u64, u32)>
+    ensures { MatchOption result
+        ((seed count : ℕ) → ¬ AreSeedAndCount (map string_bytes words.now) seed count)
+        (λ r. AreSeedAndCount (map string_bytes words.now) r.0 r.1) }
+{
+    let (seed, count) = read_two(words)?;
+    if count == 0 || count > MOST_GENERATED as u64 {
+        return None;
+    }
+    Some((seed, count as u32))
 }
 
 // The kind and the sizes of a question.

@@ -51,3 +51,25 @@ returns-in_ok-sequence_made-in-Niederreiter-clause-answer g c = λ x y.
     let sizes = c.in-Niederreiter in
     sequence_done _ _ c.args.command.bounds c.all-rules.result c.all-rules.ensures c.args.command.task sizes.q sizes.m sizes.s before after c.args.feeds.now.items made.field-0.status
     made.field-0.text.items sizes.is refl made.ensures.answer
+
+pub returns-in-Generate-clause-answer : goal.returns-in-Generate-clause-answer
+returns-in-Generate-clause-answer g c =
+    let sizes = c.in-Generate in
+    IfOk-weaker c.generated_all.result _ _
+    (λ a h x y.
+    let before : World = record { input = g.R.Source.left c.args.input.now; output = x; records = g.K.Keeper.records c.args.keeper.now } in
+    let after : World = record { input = g.R.Source.left c.args.input.now; output = y; records = g.K.Keeper.records c.generated_all.new.keeper } in
+    done_as _ _ c.args.command.bounds c.all-rules.result c.all-rules.ensures c.args.command.task (task.Generate sizes.seed sizes.count) before after _ _ a.status a.text.items sizes.is
+    (h (g.R.Source.left c.args.input.now) x y))
+    c.generated_all.ensures.answer
+
+pub returns-in-Generate-clause-stopped : goal.returns-in-Generate-clause-stopped
+returns-in-Generate-clause-stopped g c =
+    let sizes = c.in-Generate in
+    IfErr-weaker c.generated_all.result _ _
+    (λ e h x y.
+    let before : World = record { input = g.R.Source.left c.args.input.now; output = x; records = g.K.Keeper.records c.args.keeper.now } in
+    let after : World = record { input = g.R.Source.left c.args.input.now; output = y; records = g.K.Keeper.records c.generated_all.new.keeper } in
+    stopped_as _ _ c.args.command.bounds c.all-rules.result c.all-rules.ensures c.args.command.task (task.Generate sizes.seed sizes.count) before after _ _ (status_given_up e) sizes.is
+    (h (g.R.Source.left c.args.input.now) x y))
+    c.generated_all.ensures.stopped
