@@ -1,0 +1,5 @@
+//! Tests of a store in two files that stop.
+#![tactic(auto)]
+
+#[cfg(test)]
+mod tests;
