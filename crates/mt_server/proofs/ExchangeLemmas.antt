@@ -1,7 +1,6 @@
 -- One exchange more, behind those of a connection so far.
-use Rattle.std.proofs.Common.{◌≡◌, ◌≢◌, ℕ, ◌+◌, ◌≤◌, ◌==◌, ◌||◌, ◌⊎◌, Bool, true, false, List, [], ◌∷◌, ◌++◌, length, inl, inr, refl, sym, ap, ◌∙◌, subst, arith, append_assoc, append-nil}
+use Rattle.std.proofs.Common.{◌≡◌, ℕ, ◌+◌, false, List, [], ◌∷◌, ◌++◌, length, inl, inr, refl, sym, ap, ◌∙◌, subst, arith, append_assoc, append-nil}
 use Rattle.mt_http.specs.Items.{asked, Begins}
-use Rattle.mt_server.specs.declared.connection.TheConstants.{MOST_RESPONSES}
 use Rattle.mt_server.specs.Replies.{response_text}
 use Rattle.mt_server.specs.Connections.{Viewed, Exchange, IsAnswered, AreAnswered, AreRequests, AllStay, responses_text, keeper_fault, keeper_faults, Counted}
 use Rattle.mt_server.specs.Turns.{Stay, is_last}

@@ -1,5 +1,5 @@
 -- The statuses of replies, and replies for want of memory.
-use Rattle.std.proofs.Common.{◌≡◌, ◌≢◌, ℕ, ◌+◌, ◌≤◌, ◌==◌, ◌⊎◌, cond, Bool, true, false, List, ◌∷◌, length, inl, inr, refl, sym, ap, ◌∙◌, subst, arith, Option, Some, None, Result, Ok, Err, IfOk, MatchResult}
+use Rattle.std.proofs.Common.{◌≡◌, ℕ, Bool, List, ◌∷◌, length, inl, inr, refl, sym, ap, ◌∙◌, subst, arith, Option, Result, Ok, Err, IfOk, MatchResult}
 use Rattle.mt_cells.specs.declared.bounds.Bounds.{Bounds}
 use Rattle.mt_cells.specs.declared.rules.RuleSet.{RuleSet}
 use Rattle.mt_cells.specs.declared.asks.Question.{Question}
@@ -9,7 +9,7 @@ use Rattle.mt_http.specs.Items.{Request}
 use Rattle.mt_http.specs.Responses.{IsStatus}
 use Rattle.mt_http.specs.declared.finding.Asked.{Asked}
 use Rattle.mt_http.specs.declared.finding.Asked.TheVariants as asked
-use Rattle.mt_answer.specs.Answers.{Reply, IsReplyFor, reply_of}
+use Rattle.mt_answer.specs.Answers.{Reply, reply_of}
 use Rattle.mt_answer.specs.declared.facts.Fact.{Fact}
 use Rattle.mt_answer.specs.declared.facts.Fact.TheVariants as fact
 use Rattle.mt_service.specs.declared.outcomes.Outcome.{Outcome}

@@ -1,5 +1,5 @@
 -- Relations of what is told, one after another.
-use Rattle.std.proofs.Common.{◌≡◌, ℕ, List, ◌++◌, take, sym, ap, ◌∙◌, append_assoc, Option, None, Some}
+use Rattle.std.proofs.Common.{◌≡◌, ℕ, List, ◌++◌, take, ap, ◌∙◌, append_assoc, Option, None, Some}
 use Rattle.mt_io.specs.Streams.{AppendsPrefix}
 use Rattle.mt_io.specs.Told.{WhereTold}
 

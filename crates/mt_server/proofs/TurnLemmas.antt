@@ -3,7 +3,6 @@ use Rattle.std.proofs.Common.{◌≡◌, ◌≢◌, ℕ, ◌+◌, ◌≤◌, ◌
 use Rattle.std.proofs.lemmas.Bool.Decides.{eqb_tells}
 use mathlib.Core.List.{IsPrefix}
 use Rattle.std.proofs.lemmas.List.{take-append-drop}
-use Rattle.mt_io.specs.Streams.{AppendsPrefix}
 use Rattle.mt_io.specs.Told.{WhereTold}
 use Rattle.mt_http.specs.Buffers.{Held, ahead}
 use Rattle.mt_http.specs.Items.{Begins}
@@ -16,10 +15,10 @@ use Rattle.mt_server.specs.declared.connection.Next.{Next}
 use Rattle.mt_server.specs.declared.connection.Next.TheVariants as next
 use Rattle.mt_server.specs.declared.connection.TheConstants.{MOST_RESPONSES}
 use Rattle.mt_server.specs.Replies.{response_text}
-use Rattle.mt_server.specs.Connections.{Viewed, Exchange, IsAnswered, AreAnswered, AreRequests, AllStay, LastCloses, responses_text, IsRefusal, IsEnd, IsConnection, keeper_faults, Counted}
-use Rattle.mt_server.specs.Turns.{next_after, IsSent, is_last, IsReplied, IsIdle, IsStop, IsTurn, Stay, HasServed, IsAfter, IsLookCounted}
+use Rattle.mt_server.specs.Connections.{Viewed, Exchange, AreAnswered, AllStay, LastCloses, responses_text, IsEnd, IsConnection, keeper_faults, Counted}
+use Rattle.mt_server.specs.Turns.{next_after, IsSent, is_last, IsReplied, IsIdle, IsStop, IsTurn, HasServed, IsAfter, IsLookCounted}
 use Rattle.mt_server.proofs.ToldLemmas.{told_self, told_text, told_same, told_part}
-use Rattle.mt_server.proofs.ExchangeLemmas.{answers_more, requests_more, responses_more, stay_more, all_stay, faults_more, counted_more}
+use Rattle.mt_server.proofs.ExchangeLemmas.{answers_more, requests_more, responses_more, stay_more, all_stay, faults_more}
 
 -- ---- what follows a response
 

@@ -1,5 +1,5 @@
 -- What one item of a connection makes of a turn, and the turns so far.
-use Rattle.std.proofs.Common.{◌≡◌, ℕ, ◌≤◌, ◌==◌, ◌||◌, Bool, true, List, ◌++◌, refl, sym, subst, inl, inr, Option}
+use Rattle.std.proofs.Common.{◌≡◌, ℕ, ◌≤◌, Bool, true, List, ◌++◌, refl, sym, subst, inl, inr, Option}
 use Rattle.mt_io.specs.Told.{WhereTold}
 use Rattle.mt_http.specs.Buffers.{Held, ahead}
 use Rattle.mt_http.specs.Reading.{request_at}
@@ -10,7 +10,7 @@ use Rattle.mt_http.specs.declared.wire.Wire.{Wire}
 use Rattle.mt_server.specs.declared.connection.Next.{Next}
 use Rattle.mt_server.specs.declared.connection.TheConstants.{MOST_RESPONSES}
 use Rattle.mt_server.specs.Replies.{Response, with_reply, response_text, memory_reply}
-use Rattle.mt_server.specs.Connections.{Viewed, IsAnswered, keeper_fault, Counted}
+use Rattle.mt_server.specs.Connections.{Viewed}
 use Rattle.mt_server.specs.Turns.{IsSent, IsItem, IsRequestServed, IsTurn, HasServed, IsAfter}
 use Rattle.mt_server.proofs.ToldLemmas.{told_map, told_then}
 use Rattle.mt_server.proofs.TurnLemmas.{turned}

@@ -1,5 +1,5 @@
 //! The answers to single requests, by a viewer and an office.
-ghost use Rattle.std.specs.Prelude.{◌≡◌, ◌≢◌, ℕ, ◌≤◌, ◌∷◌, [], List, Option, length, IfOk, IfSome, IfNone, MatchResult};
+ghost use Rattle.std.specs.Prelude.{◌≡◌, List, Option, length, IfOk, IfSome, IfNone, MatchResult};
 ghost use Rattle.mt_derive.specs.declared.events.Event.{Event};
 ghost use Rattle.mt_http.specs.Reading.{IsIn, request_at};
 ghost use Rattle.mt_answer.specs.Answers.{shown};

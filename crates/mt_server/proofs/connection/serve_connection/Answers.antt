@@ -1,4 +1,4 @@
-use Rattle.std.proofs.Common.{◌≡◌, ◌+◌, ◌∙◌, arith, refl}
+use Rattle.std.proofs.Common.{◌∙◌, arith, refl}
 use Rattle.mt_server.specs.declared.connection.Next.TheVariants as next
 use Rattle.mt_server.proofs.TurnLemmas.{looks_more}
 use Rattle.mt_server.proofs.WireLemmas.{turned_told}
