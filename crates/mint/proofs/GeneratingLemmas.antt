@@ -1,6 +1,6 @@
 -- Imports of claims one after the other: one claim more, and what is counted of them.
 use Rattle.std.proofs.Common.{◌≡◌, ℕ, ◌+◌, ◌-◌, ◌^◌, ◌<◌, ◌≤◌, min, List, [], ◌∷◌, ◌++◌, length, map, take, get_or, refl, sym, ap, ◌∙◌, subst, arith}
-use Rattle.std.specs.Prelude.{Some, IsSome, is_some, All, sum_by}
+use Rattle.std.specs.Prelude.{IsSome, All, sum_by}
 use Rattle.std.proofs.lemmas.List.{take_all, take_more, take-map, map_push, length-map}
 use Rattle.std.proofs.lemmas.List.Elements.{All-nil, All-push}
 use Rattle.std.proofs.lemmas.List.Sums.{sum_by_push}
@@ -17,7 +17,6 @@ use Rattle.mt_service.specs.declared.outcomes.Outcome.{Outcome}
 use Rattle.mt_service.specs.declared.outcomes.Outcome.TheVariants as outcome
 use Rattle.mt_service.specs.Steps.{IsStep}
 use Rattle.mint.specs.declared.generating.Tally.{Tally}
-use Rattle.mint.specs.declared.status.Status.{Status}
 use Rattle.mint.specs.Generating.{accepted_by, already_by, refused_by, tried_by, tally_text, generated_text, AreImported, IsGeneratedRun, IsPartlyGenerated}
 use Rattle.mint.specs.Statuses.{status_of}
 use Rattle.mint.specs.Tallies.{IsTally}
@@ -155,7 +154,3 @@ module _ (b : Bounds) (rules : RuleSet) where
       score_is = is;
       output_is = line ∙ same_line count came.0 t score came.3;
     }
-
--- an outcome with a status ends no command
-pub with_status : (o : Outcome) (s : Status) → status_of o ≡ Some s → IsSome (status_of o)
-with_status o s is = ap is_some is
