@@ -22,6 +22,8 @@ export                    the values of all cells, as comma-separated values
                             mint :memory: - 16,32 export
 import                    imports the text on standard input, or withdraws an import
                             mint :memory: - 16,32 import < examples/golay.txt
+generate SEED COUNT       imports COUNT claims that are drawn from SEED, up to 1024
+                            mint :memory: - 16,32 generate 1 10
 niederreiter Q M S        Niederreiter's generator matrices of a sequence, as an import text
                             mint :memory: - 16,32 niederreiter 2 10 4
 HELP
