@@ -1,4 +1,6 @@
 //! Whole connections, in pieces of several sizes, and with reads and writes that fail.
+ghost use Rattle.std.specs.Prelude.{◌≡◌, ◌<◌};
+
 use mt_cells::{Bounds, RuleSet};
 use mt_derive::Event;
 use mt_io::{MemoryLink, MemorySink, MemorySource};
