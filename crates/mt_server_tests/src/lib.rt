@@ -1,5 +1,0 @@
-//! Tests of connections over a desk.
-#![tactic(auto)]
-
-#[cfg(test)]
-mod tests;
