@@ -1,0 +1,5 @@
+//! Tests of connections over a desk.
+#![tactic(auto)]
+
+#[cfg(test)]
+mod tests;
