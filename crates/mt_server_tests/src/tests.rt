@@ -1,4 +1,4 @@
-//! Whole connections, in pieces of several sizes, and with reads and writes that fail.
+//! Whole connections, in pieces of several sizes.
 ghost use Rattle.std.specs.Prelude.{◌≡◌, ◌<◌};
 
 use mt_cells::{Bounds, RuleSet};
