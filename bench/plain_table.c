@@ -1,7 +1,8 @@
 /* The plain program beside mint's table: it computes the same greatest values with a work list, from
-   which it takes the sequences first, and answers one question for a net, or prints them all. It
-   writes the number of its conclusions to standard error.
-   Usage: plain_table M S Q NET_M NET_S, or plain_table M S */
+   which it takes the sequences first, applies imports to them one after the other, and answers one
+   question for a net, or prints all values. It writes the number of its conclusions to standard error.
+   Usage: plain_table M S [Q NET_M NET_S] [IMPORTS], where IMPORTS is a file with a line for each import:
+   its kind, ooa or seq, and Q M S DEPTH K, with M for the DEPTH of a sequence */
 #include <stdio.h>
 #include <stdlib.h>
 #include <string.h>
@@ -11,7 +12,8 @@ enum { ORDERS = 7 };
 static const int orders[ORDERS] = {2, 3, 4, 5, 7, 8, 9};
 static int m_max, s_max, arrays, per_order;
 static unsigned char *values, *waits;
-static int from;
+static int *since;
+static int from, version;
 static long conclusions;
 
 static int array_number(int order, int m, int s, int depth) {
@@ -28,6 +30,7 @@ static void raise_to(int n, int k) {
     conclusions++;
     if (values[n] >= k) return;
     values[n] = k;
+    since[n] = version;
     waits[n] = 1;
     if (n < from) from = n;
 }
@@ -128,6 +131,45 @@ static void try_cell(int n) {
     try_array(order, m, rest / m + 1, rest % m + 1);
 }
 
+/* Tries every instance of each cell that waits, until none does. */
+static void try_waiting(int cells) {
+    while (from < cells) {
+        if (!waits[from]) {
+            from++;
+            continue;
+        }
+        waits[from] = 0;
+        try_cell(from);
+    }
+}
+
+static int order_of(int q) {
+    int order = 0;
+    while (order < ORDERS && orders[order] != q) order++;
+    return order;
+}
+
+/* Applies the imports of a file, and answers whether each line is one. */
+static int apply_imports(const char *path, int cells) {
+    FILE *file = fopen(path, "r");
+    char kind[4];
+    int q, m, s, depth, k, found;
+    if (!file) return 0;
+    while ((found = fscanf(file, "%3s %d %d %d %d %d", kind, &q, &m, &s, &depth, &k)) == 6) {
+        int order = order_of(q);
+        if (order == ORDERS || m < 1 || m > m_max || s < 1 || s > s_max || depth < 1 || depth > m) break;
+        version++;
+        raise_to(kind[0] == 's' ? sequence_number(order, m, s) : array_number(order, m, s, depth), k);
+        try_waiting(cells);
+    }
+    fclose(file);
+    return found == EOF;
+}
+
+static void print_cell(const char *kind, int q, int m, int s, int depth, int n) {
+    printf("%s,%d,%d,%d,%d,%d,%d\n", kind, q, m, s, depth, values[n], since[n]);
+}
+
 static void print_all(void) {
     puts("kind,q,m,s,depth,k,since");
     for (int order = 0; order < ORDERS; order++) {
@@ -135,16 +177,15 @@ static void print_all(void) {
         for (int m = 1; m <= m_max; m++)
             for (int s = 1; s <= s_max; s++)
                 for (int depth = 1; depth <= m; depth++)
-                    printf("ooa,%d,%d,%d,%d,%d,0\n", q, m, s, depth,
-                           values[array_number(order, m, s, depth)]);
+                    print_cell("ooa", q, m, s, depth, array_number(order, m, s, depth));
         for (int m = 1; m <= m_max; m++)
             for (int s = 1; s <= s_max; s++)
-                printf("seq,%d,%d,%d,%d,%d,0\n", q, m, s, m, values[sequence_number(order, m, s)]);
+                print_cell("seq", q, m, s, m, sequence_number(order, m, s));
     }
 }
 
 int main(int count, char **words) {
-    if (count != 6 && count != 3) return 2;
+    if (count != 3 && count != 4 && count != 6 && count != 7) return 2;
     m_max = atoi(words[1]);
     s_max = atoi(words[2]);
     arrays = s_max * (m_max * (m_max + 1) / 2);
@@ -152,7 +193,8 @@ int main(int count, char **words) {
     int cells = ORDERS * per_order;
     values = calloc(cells, 1);
     waits = malloc(cells);
-    if (!values || !waits) return 1;
+    since = calloc(cells, sizeof *since);
+    if (!values || !waits || !since) return 1;
     memset(waits, 1, cells);
     for (int order = 0; order < ORDERS; order++) start_sequences(order);
     for (int order = 0; order < ORDERS; order++)
@@ -165,23 +207,16 @@ int main(int count, char **words) {
         waits[n] = 0;
         try_cell(n);
     }
-    while (from < cells) {
-        if (!waits[from]) {
-            from++;
-            continue;
-        }
-        waits[from] = 0;
-        try_cell(from);
-    }
+    try_waiting(cells);
+    if ((count == 4 || count == 7) && !apply_imports(words[count - 1], cells)) return 2;
     fprintf(stderr, "%ld\n", conclusions);
-    if (count == 3) {
+    if (count < 6) {
         print_all();
         return 0;
     }
-    int q = atoi(words[3]), m = atoi(words[4]), s = atoi(words[5]), order = 0;
-    while (order < ORDERS && orders[order] != q) order++;
+    int q = atoi(words[3]), m = atoi(words[4]), s = atoi(words[5]), order = order_of(q);
     if (order == ORDERS || m < 1 || m > m_max || s < 1 || s > s_max) return 8;
-    int k = values[array_number(order, m, s, m)];
-    printf("net %d %d %d: k %d, t %d, since 0, version 0\n", q, m, s, k, m - k);
+    int n = array_number(order, m, s, m), k = values[n];
+    printf("net %d %d %d: k %d, t %d, since %d, version %d\n", q, m, s, k, m - k, since[n], version);
     return 0;
 }

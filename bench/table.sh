@@ -4,7 +4,15 @@
 # the values of all cells, as mint exports them.
 # Prints for each bounds the milliseconds (median of 5 runs in turn, the start of the process included)
 # and, where /usr/bin/time is there, the kilobytes of memory of both, the number of conclusions that the
-# plain one draws, and the ratio of the times; ends with status 1 if the answers differ.
+# plain one draws, and the ratio of the times.
+# Then it times 100 imports of examples/ at 16,32, applied one after the other: five claims of each text
+# that holds, each of more strength than the one before, of which the last 100 are taken. Mint has them
+# as records of a store, which sqlite3's library wrote, opens it and answers the question. Its time is
+# what that takes longer than over an empty store; who opens a store checks its records, so the time of
+# the checks, which is what `check` takes longer on each text than on one with a single choice (least of
+# 3 runs), is told beside it and left out of the ratio. The plain program applies what the texts claim,
+# and its time is what its answer takes longer than without them.
+# Ends with status 1 if the answers or the values of the cells differ.
 # MINT names another program to run, from the top of the repository; CC a compiler.
 cd "$(dirname "$0")/.." || exit 1
 mint=${MINT:-./mint}
@@ -21,13 +29,13 @@ trap 'rm -rf "$work"' EXIT
 "$compiler" -O2 -o "$work/plain" bench/plain_table.c || exit 1
 "$mint" :memory: - 16,32 value net 2 10 4 >/dev/null || exit 1
 
-exec python3 - "$mint" "$work/plain" <<'PYTHON'
-import os, subprocess, sys, time
+python3 - "$mint" "$work/plain" <<'PYTHON'
+import os, sqlite3, subprocess, sys, tempfile, time
 
-def run(words):
+def run(words, text=""):
     """What the program prints, its milliseconds, its errors."""
     start = time.perf_counter()
-    ended = subprocess.run(words, stdin=subprocess.DEVNULL, capture_output=True, text=True)
+    ended = subprocess.run(words, input=text, capture_output=True, text=True)
     return ended.stdout, (time.perf_counter() - start) * 1000, ended.stderr
 
 def size(words):
@@ -65,4 +73,90 @@ for m, s in ("16", "32"), ("20", "48"):
         f" plain {times['plain']:.1f} ms and {sizes['plain']} kB for {conclusions} conclusions,"
         f" ratio {times['mint'] / times['plain']:.2f}"
     )
+
+
+def holding():
+    """The words of the headers and the rows of the texts of examples/ that hold."""
+    with open("examples/expected.txt") as file:
+        lines = [line.split("\t") for line in file]
+    for name, status, _ in lines:
+        if status == "0":
+            with open(f"examples/{name}") as file:
+                header, *rows = file.read().splitlines()
+            yield header.split(), rows
+
+
+def weaker(words, rows, less):
+    """The text with a strength that is so much less, and what it claims as the plain program's line."""
+    kind, q, m, s, *numbers, name = words
+    if kind == "ooa":
+        depth, k = int(numbers[0]), max(0, int(numbers[1]) - less)
+        claimed = [depth, k]
+    else:
+        depth, k = int(m), max(0, int(m) - int(numbers[0]) - less)
+        claimed = [int(m) - k]
+    header = " ".join([kind, q, m, s, *map(str, claimed), f"{name}-less-{less}"])
+    cell = "seq" if kind == "seq" else "ooa"
+    return "\n".join([header, *rows, ""]), f"{cell} {q} {m} {s} {depth} {k}\n"
+
+
+def make_store(path, texts):
+    """Makes a store with these records."""
+    connection = sqlite3.connect(path)
+    connection.execute(
+        "CREATE TABLE imports (number INTEGER PRIMARY KEY, text BLOB NOT NULL) STRICT"
+    )
+    records = [(number, text.encode()) for number, text in enumerate(texts, 1)]
+    connection.executemany("INSERT INTO imports (number, text) VALUES (?, ?)", records)
+    connection.commit()
+    connection.close()
+
+
+def check_time(text):
+    """The least milliseconds of 3 runs of `check`."""
+    runs = [run([mint, ":memory:", "-", "16,32", "check"], text) for _ in range(3)]
+    if not runs[0][0].startswith("holds "):
+        sys.exit(f"{text.splitlines()[0]}: {runs[0][0]}")
+    return min(elapsed for _, elapsed, _ in runs)
+
+
+def measure_imports(folder):
+    examples = list(holding())
+    pairs = [weaker(words, rows, less) for less in (4, 3, 2, 1, 0) for words, rows in examples][-100:]
+    texts = [text for text, _ in pairs]
+    empty, full, lines = (os.path.join(folder, name) for name in ("empty.db", "full.db", "lines"))
+    make_store(empty, [])
+    make_store(full, texts)
+    with open(lines, "w") as file:
+        file.writelines(line for _, line in pairs)
+    value = ["-", "16,32", "value"] + question
+    commands = {
+        "mint": [mint, full] + value,
+        "mint empty": [mint, empty] + value,
+        "plain": [plain, "16", "32"] + question[1:] + [lines],
+        "plain empty": [plain, "16", "32"] + question[1:],
+    }
+    runs = {name: [] for name in commands}
+    for _ in range(5):
+        for name, words in commands.items():
+            runs[name].append(run(words))
+    exports = [run([mint, full, "-", "16,32", "export"])[0], run([plain, "16", "32", lines])[0]]
+    if runs["mint"][0][0] != runs["plain"][0][0]:
+        sys.exit(f"imports: the answers differ: {runs['mint'][0]}, {runs['plain'][0]}")
+    if exports[0] != exports[1]:
+        sys.exit("imports: the values of the cells differ")
+    times = {name: sorted(run[1] for run in found)[2] for name, found in runs.items()}
+    single = check_time("ooa 2 1 1 1 1 one\n1\n")
+    checked = sum(check_time(text) - single for text in texts)
+    opened = times["mint"] - times["mint empty"]
+    of_plain = times["plain"] - times["plain empty"]
+    print(
+        f"{len(texts)} imports 16,32: mint {opened:.1f} ms with its checks of {checked:.1f} ms and"
+        f" {size(commands['mint'])} kB, plain {of_plain:.1f} ms and {size(commands['plain'])} kB,"
+        f" ratio without the checks {(opened - checked) / of_plain:.2f}"
+    )
+
+
+with tempfile.TemporaryDirectory() as folder:
+    measure_imports(folder)
 PYTHON
