@@ -1,12 +1,13 @@
 #!/usr/bin/env bash
 # Measure the requests a second of `serve` over loopback, beside nginx: GET /net/2/10/4 at bounds 16,32 by
-# `wrk -t2 -c4`, of mint with 4 workers over an empty store in a file, and of nginx with 4 workers, a file
+# `wrk -t2 -c4`, of mint with 4 workers over a new store in a file, and of nginx with 4 workers, a file
 # of the same bytes at the same path, no log, and 1,000 requests a connection, as mint has; and then of
 # mint again while a client imports texts by POST /import all the time, one after the other.
 # Prints the requests a second of both (median of 3 rounds, in each round all three in turn) and the ratio
 # of mint's to nginx's, 1 or more being the goal; and the same while texts are imported, with how many
 # were accepted and how many were answered otherwise, half of nginx's or more being the goal. Each worker
-# has one connection at a time, so the client waits for one of wrk's to end before it is served.
+# has one connection at a time, so the client waits for one of wrk's to end before it is served. Each
+# round has a store of its own, which is full after 2,048 imports.
 # Ends with status 1 if a server does not come up, or if an answer had another status than 200 or a
 # connection failed. The servers listen on free ports of 127.0.0.1 and are ended by their numbers.
 # MINT names another program to run, from the top of the repository; DURATION is for how many seconds wrk
@@ -156,25 +157,31 @@ def start_nginx(folder, port, body):
     return ["nginx", "-p", folder, "-c", f"{folder}/nginx.conf", "-e", f"{folder}/error.log"]
 
 
+def start_mint(folder, port):
+    """The words that start mint over a store that is not there yet."""
+    store = os.path.join(tempfile.mkdtemp(dir=folder), "store.db")
+    return [mint, store, "-", "16,32", "serve", str(port), "4", "1000000"]
+
+
 def measure(folder):
-    ports = free_port(), free_port()
-    words = [mint, f"{folder}/store.db", "-", "16,32", "serve", str(ports[0]), "4", "1000000"]
     rates, statuses = {"mint": [], "nginx": [], "imports": []}, {}
     failed, late = 0, {"mint": 0, "nginx": 0, "imports": 0}
-    with contextlib.ExitStack() as servers:
-        body = servers.enter_context(server("mint", words, ports[0]))
-        served = servers.enter_context(server("nginx", start_nginx(folder, ports[1], body), ports[1]))
-        if served != body:
-            sys.exit("nginx: another body")
-        for _ in range(rounds):
-            plain = [requests_a_second(name, port) for name, port in zip(("mint", "nginx"), ports)]
+    for number in range(rounds):
+        ports = free_port(), free_port()
+        site = os.path.join(folder, f"nginx-{number}")
+        with server("mint", start_mint(folder, ports[0]), ports[0]) as body:
+            found = [requests_a_second("mint", ports[0])]
+            with server("nginx", start_nginx(site, ports[1], body), ports[1]) as served:
+                if served != body:
+                    sys.exit("nginx: another body")
+                found.append(requests_a_second("nginx", ports[1]))
             *beside, importer = beside_imports(ports[0])
-            for name, (rate, count) in zip(rates, [*plain, beside]):
-                rates[name].append(rate)
-                late[name] += count
-            failed += importer.failed
-            for status, count in importer.statuses.items():
-                statuses[status] = statuses.get(status, 0) + count
+        for name, (rate, count) in zip(rates, [*found, beside]):
+            rates[name].append(rate)
+            late[name] += count
+        failed += importer.failed
+        for status, count in importer.statuses.items():
+            statuses[status] = statuses.get(status, 0) + count
     median = {name: statistics.median(found) for name, found in rates.items()}
     print(
         f"GET {QUESTION}, {len(body)} bytes: mint {median['mint']:,.0f} requests a second,"
