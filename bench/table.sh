@@ -7,11 +7,11 @@
 # plain one draws, and the ratio of the times.
 # Then it times 100 imports of examples/ at 16,32, applied one after the other: five claims of each text
 # that holds, each of more strength than the one before, of which the last 100 are taken. Mint has them
-# as records of a store, which sqlite3's library wrote, opens it and answers the question. Its time is
-# what that takes longer than over an empty store; who opens a store checks its records, so the time of
-# the checks, which is what `check` takes longer on each text than on one with a single choice (least of
-# 3 runs), is told beside it and left out of the ratio. The plain program applies what the texts claim,
-# and its time is what its answer takes longer than without them.
+# as records of a store, which sqlite3's library wrote, opens it, which checks them too, and answers the
+# question; its time is what that takes longer than over an empty store. The same claims stand under
+# other names behind them in another store, where they raise no value: what is still longer there is
+# told beside it. The plain program applies what the texts claim, and tells its time for that itself.
+# Prints the milliseconds (least of 15 runs in turn), the kilobytes of both, and the ratio of the times.
 # Ends with status 1 if the answers or the values of the cells differ.
 # MINT names another program to run, from the top of the repository; CC a compiler.
 cd "$(dirname "$0")/.." || exit 1
@@ -67,7 +67,7 @@ for m, s in ("16", "32"), ("20", "48"):
         sys.exit(1)
     times = {name: sorted(run[1] for run in found)[2] for name, found in runs.items()}
     sizes = {name: size(words) for name, words in commands.items()}
-    conclusions = int(runs["plain"][0][2])
+    conclusions = int(runs["plain"][0][2].split()[0])
     print(
         f"table {m},{s}: mint {times['mint']:.1f} ms and {sizes['mint']} kB,"
         f" plain {times['plain']:.1f} ms and {sizes['plain']} kB for {conclusions} conclusions,"
@@ -86,7 +86,7 @@ def holding():
             yield header.split(), rows
 
 
-def weaker(words, rows, less):
+def weaker(words, rows, less, mark):
     """The text with a strength that is so much less, and what it claims as the plain program's line."""
     kind, q, m, s, *numbers, name = words
     if kind == "ooa":
@@ -95,9 +95,16 @@ def weaker(words, rows, less):
     else:
         depth, k = int(m), max(0, int(m) - int(numbers[0]) - less)
         claimed = [int(m) - k]
-    header = " ".join([kind, q, m, s, *map(str, claimed), f"{name}-less-{less}"])
+    header = " ".join([kind, q, m, s, *map(str, claimed), f"{name}-{mark}-{less}"])
     cell = "seq" if kind == "seq" else "ooa"
     return "\n".join([header, *rows, ""]), f"{cell} {q} {m} {s} {depth} {k}\n"
+
+
+def pairs(mark):
+    """100 texts, whose names have the mark, with the plain program's lines."""
+    examples = list(holding())
+    found = [weaker(words, rows, less, mark) for less in (4, 3, 2, 1, 0) for words, rows in examples]
+    return found[-100:]
 
 
 def make_store(path, texts):
@@ -112,48 +119,38 @@ def make_store(path, texts):
     connection.close()
 
 
-def check_time(text):
-    """The least milliseconds of 3 runs of `check`."""
-    runs = [run([mint, ":memory:", "-", "16,32", "check"], text) for _ in range(3)]
-    if not runs[0][0].startswith("holds "):
-        sys.exit(f"{text.splitlines()[0]}: {runs[0][0]}")
-    return min(elapsed for _, elapsed, _ in runs)
-
-
 def measure_imports(folder):
-    examples = list(holding())
-    pairs = [weaker(words, rows, less) for less in (4, 3, 2, 1, 0) for words, rows in examples][-100:]
-    texts = [text for text, _ in pairs]
-    empty, full, lines = (os.path.join(folder, name) for name in ("empty.db", "full.db", "lines"))
+    first, again = pairs("less"), pairs("again")
+    texts = [text for text, _ in first]
+    empty, full, twice, lines = (os.path.join(folder, name) for name in ("empty", "full", "twice", "lines"))
     make_store(empty, [])
     make_store(full, texts)
+    make_store(twice, texts + [text for text, _ in again])
     with open(lines, "w") as file:
-        file.writelines(line for _, line in pairs)
+        file.writelines(line for _, line in first)
     value = ["-", "16,32", "value"] + question
     commands = {
-        "mint": [mint, full] + value,
-        "mint empty": [mint, empty] + value,
+        "empty": [mint, empty] + value,
+        "full": [mint, full] + value,
+        "twice": [mint, twice] + value,
         "plain": [plain, "16", "32"] + question[1:] + [lines],
-        "plain empty": [plain, "16", "32"] + question[1:],
     }
     runs = {name: [] for name in commands}
-    for _ in range(5):
+    for _ in range(15):
         for name, words in commands.items():
             runs[name].append(run(words))
     exports = [run([mint, full, "-", "16,32", "export"])[0], run([plain, "16", "32", lines])[0]]
-    if runs["mint"][0][0] != runs["plain"][0][0]:
-        sys.exit(f"imports: the answers differ: {runs['mint'][0]}, {runs['plain'][0]}")
+    if runs["full"][0][0] != runs["plain"][0][0]:
+        sys.exit(f"imports: the answers differ: {runs['full'][0]}, {runs['plain'][0]}")
     if exports[0] != exports[1]:
         sys.exit("imports: the values of the cells differ")
-    times = {name: sorted(run[1] for run in found)[2] for name, found in runs.items()}
-    single = check_time("ooa 2 1 1 1 1 one\n1\n")
-    checked = sum(check_time(text) - single for text in texts)
-    opened = times["mint"] - times["mint empty"]
-    of_plain = times["plain"] - times["plain empty"]
+    times = {name: min(run[1] for run in found) for name, found in runs.items()}
+    of_mint, nothing = times["full"] - times["empty"], times["twice"] - times["full"]
+    of_plain = min(int(run[2].split()[1]) for run in runs["plain"]) / 1e6
     print(
-        f"{len(texts)} imports 16,32: mint {opened:.1f} ms with its checks of {checked:.1f} ms and"
-        f" {size(commands['mint'])} kB, plain {of_plain:.1f} ms and {size(commands['plain'])} kB,"
-        f" ratio without the checks {(opened - checked) / of_plain:.2f}"
+        f"{len(texts)} imports 16,32: mint {of_mint:.1f} ms and {size(commands['full'])} kB, where they raise"
+        f" nothing {nothing:.1f} ms, plain {of_plain:.2f} ms and {size(commands['plain'])} kB,"
+        f" ratio {of_mint / of_plain:.2f}"
     )
 
 
