@@ -1,7 +1,7 @@
 /* The plain program beside mint's table: it computes the same greatest values with a work list, from
    which it takes the sequences first, applies imports to them one after the other, and answers one
-   question for a net, or prints all values. It writes the number of its conclusions and the nanoseconds
-   of the imports to standard error.
+   question for a net, or prints all values. To standard error it writes the number of its conclusions,
+   and the nanoseconds of the processor that the imports took.
    Usage: plain_table M S [Q NET_M NET_S] [IMPORTS], where IMPORTS is a file with a line for each import:
    its kind, ooa or seq, and Q M S DEPTH K, with M for the DEPTH of a sequence */
 #include <stdint.h>
@@ -189,7 +189,7 @@ static void print_all(void) {
 
 static uint64_t now(void) {
     struct timespec time;
-    clock_gettime(CLOCK_MONOTONIC, &time);
+    clock_gettime(CLOCK_PROCESS_CPUTIME_ID, &time);
     return (uint64_t)time.tv_sec * 1000000000u + (uint64_t)time.tv_nsec;
 }
 

@@ -11,7 +11,8 @@
 # question; its time is what that takes longer than over an empty store. The same claims stand under
 # other names behind them in another store, where they raise no value: what is still longer there is
 # told beside it. The plain program applies what the texts claim, and tells its time for that itself.
-# Prints the milliseconds (least of 15 runs in turn), the kilobytes of both, and the ratio of the times.
+# Prints the milliseconds of the processor (least of 15 runs in turn), the kilobytes of both, and the
+# ratio of the times.
 # Ends with status 1 if the answers or the values of the cells differ.
 # MINT names another program to run, from the top of the repository; CC a compiler.
 cd "$(dirname "$0")/.." || exit 1
@@ -30,13 +31,20 @@ trap 'rm -rf "$work"' EXIT
 "$mint" :memory: - 16,32 value net 2 10 4 >/dev/null || exit 1
 
 python3 - "$mint" "$work/plain" <<'PYTHON'
-import os, sqlite3, subprocess, sys, tempfile, time
+import os, resource, sqlite3, subprocess, sys, tempfile, time
 
 def run(words, text=""):
     """What the program prints, its milliseconds, its errors."""
     start = time.perf_counter()
     ended = subprocess.run(words, input=text, capture_output=True, text=True)
     return ended.stdout, (time.perf_counter() - start) * 1000, ended.stderr
+
+def run_counted(words):
+    """The same with the milliseconds of the processor."""
+    used = lambda: sum(resource.getrusage(resource.RUSAGE_CHILDREN)[:2]) * 1000
+    before = used()
+    answer, _, errors = run(words)
+    return answer, used() - before, errors
 
 def size(words):
     """The greatest size of the program in kilobytes: that of a process that no larger one starts."""
@@ -138,7 +146,7 @@ def measure_imports(folder):
     runs = {name: [] for name in commands}
     for _ in range(15):
         for name, words in commands.items():
-            runs[name].append(run(words))
+            runs[name].append(run_counted(words))
     exports = [run([mint, full, "-", "16,32", "export"])[0], run([plain, "16", "32", lines])[0]]
     if runs["full"][0][0] != runs["plain"][0][0]:
         sys.exit(f"imports: the answers differ: {runs['full'][0]}, {runs['plain'][0]}")
