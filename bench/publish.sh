@@ -9,7 +9,8 @@
 # publisher it prints the nanoseconds of a view and of a publish, and the share of views that answered
 # None; beside the publish that waits the nanoseconds of a view, and how many times a view of three
 # alone that is: no more than 1 but for what differs from run to run. All are medians of 5 runs in turn.
-# Ends with status 1 if a program cannot be built or ends otherwise than it should, or if the publish did not wait.
+# Ends with status 1 if a program cannot be built or ends otherwise than it should, or if the publish
+# did not wait.
 # PROGRAM names a program that bench/program.sh made of bench/publish_views.rattle, in place of proving
 # and building it here; RUNS is how many runs, 5 else; CC a compiler.
 cd "$(dirname "$0")/.." || exit 1
