@@ -2,4 +2,10 @@
 #![tactic(auto)]
 
 #[cfg(test)]
+mod addresses;
+#[cfg(test)]
+mod connections;
+#[cfg(test)]
+mod exchanges;
+#[cfg(test)]
 mod tests;
