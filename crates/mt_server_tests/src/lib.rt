@@ -8,4 +8,6 @@ mod connections;
 #[cfg(test)]
 mod exchanges;
 #[cfg(test)]
+mod faults;
+#[cfg(test)]
 mod tests;
