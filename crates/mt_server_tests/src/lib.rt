@@ -10,4 +10,6 @@ mod exchanges;
 #[cfg(test)]
 mod faults;
 #[cfg(test)]
+mod feeds;
+#[cfg(test)]
 mod tests;
