@@ -12,4 +12,6 @@ mod faults;
 #[cfg(test)]
 mod feeds;
 #[cfg(test)]
+mod fronts;
+#[cfg(test)]
 mod tests;
