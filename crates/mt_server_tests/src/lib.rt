@@ -15,3 +15,5 @@ mod feeds;
 mod fronts;
 #[cfg(test)]
 mod tests;
+#[cfg(test)]
+mod workers;
