@@ -1,78 +1,7 @@
 //! Whole connections, in pieces of several sizes.
-ghost use Rattle.std.specs.Prelude.{◌≡◌, ◌<◌};
-
-use mt_cells::{Bounds, RuleSet};
-use mt_derive::Event;
-use mt_io::{MemoryLink, MemorySink, MemorySource};
-use mt_keeper::{Keeper, Records, SteadyKeeper};
-use mt_publish::Viewer;
-use mt_server::{Desk, Ended, LockedOffice, Naming, OpenDesk, Shared, serve_connection};
-use mt_table::Table;
-use std::alloc::Global;
-use std::marker::Brand;
-use std::process::Abort;
-use std::sync::{Mutex, Wait};
+use crate::connections::{Case, assert_served, bounds, empty};
+use mt_server::Ended;
 use std::test::Fail;
-
-// Room for the responses of each test.
-const ROOM: usize = 200_000;
-
-// Serves the link over the desk.
-fn serve_link<K: Keeper + Drop, N: Naming, R: Wait>(
-    rt: &R,
-    alloc: Global,
-    desk: Desk<K>,
-    viewer: &mut Viewer<Table, Event>,
-    link: &mut MemoryLink,
-) -> Ended
-    requires desk { desk.history.publication ≡ N.publication }
-    requires viewer { viewer.old.publication ≡ N.publication }
-{
-    let shared: Mutex<Shared<K, N>> = Mutex::new(Shared::new(desk));
-    let mut office = LockedOffice::new(rt, &shared);
-    serve_connection(alloc, viewer, &mut office, link)
-}
-
-// Serves the link over a desk without events, at bounds 4,8.
-fn serve_anew<R: Wait>(rt: &R, alloc: Global, link: &mut MemoryLink) -> Result<Ended, Fail> {
-    let bounds = Bounds::new(4, 8).ok_or("bounds")?;
-    let keeper = SteadyKeeper::new(Records::new(Vec::new(alloc)));
-    let feeds = Vec::new(alloc);
-    match Desk::open(alloc, keeper, feeds, bounds, RuleSet::all(), 1) {
-        Ok(OpenDesk { desk, mut viewers }) => {
-            let mut viewer = viewers.pop().unwrap();
-            Ok(serve_link::<SteadyKeeper, Brand, R>(rt, alloc, desk, &mut viewer, link))
-        }
-        Err(_) => Err("the desk is refused")?,
-    }
-}
-
-// A link with this stream, in pieces of so many bytes.
-fn link_of(alloc: Global, stream: &[u8], piece: usize) -> Result<MemoryLink, Fail>
-    requires { 0 < piece }
-{
-    let source = MemorySource::new(Vec::from_slice(alloc, stream)?, piece, Vec::new(alloc));
-    let sink = MemorySink::new(alloc, ROOM, Vec::new(alloc), 0)?;
-    Ok(MemoryLink::new(source, sink))
-}
-
-// The stream is answered by these bytes, and the connection ends so.
-fn assert_answered<R: Wait + Abort>(
-    rt: &R,
-    alloc: Global,
-    stream: &[u8],
-    piece: usize,
-    answer: &[u8],
-    end: Ended,
-) -> Result<(), Fail>
-    requires { 0 < piece }
-{
-    let mut link = link_of(alloc, stream, piece)?;
-    let ended = serve_anew(rt, alloc, &mut link)?;
-    assert_eq!(rt; ended, end);
-    assert_eq!(rt; link.bytes(), answer);
-    Ok(())
-}
 
 const QUESTIONS_AND_AN_IMPORT: &[u8] = b"GET /net/2/4/7 HTTP/1.1\r\n\r\n\
 POST /import HTTP/1.1\r\nContent-Length: 158\r\n\r\n\
@@ -95,9 +24,10 @@ HTTP/1.1 409 Conflict\r\nContent-Type: application/json\r\nContent-Length: 44\r\
 
 #[test]
 fn questions_and_an_import(rt: HostRuntime) -> Result<(), Fail> {
-    let (stream, answers) = (QUESTIONS_AND_AN_IMPORT, THEIR_ANSWERS);
+    let (alloc, stream, answers) = (rt.alloc(), QUESTIONS_AND_AN_IMPORT, THEIR_ANSWERS);
     for piece in [1, 2, 7, 8192] {
-        assert_answered(&rt, rt.alloc(), stream, piece, answers, Ended::Done)?;
+        let case = Case::steady(stream, piece, answers, Ended::Done);
+        assert_served(&rt, alloc, bounds()?, empty(alloc), &[case])?;
     }
     Ok(())
 }
@@ -176,8 +106,10 @@ Connection: close\r\n\r\n{\"version\":0}",
 
 #[test]
 fn hostile_streams(rt: HostRuntime) -> Result<(), Fail> {
+    let alloc = rt.alloc();
     for (stream, answer, end) in HOSTILE {
-        assert_answered(&rt, rt.alloc(), stream, 7, answer, end)?;
+        let case = Case::steady(stream, 7, answer, end);
+        assert_served(&rt, alloc, bounds()?, empty(alloc), &[case])?;
     }
     Ok(())
 }
