@@ -5,7 +5,11 @@ mod causes;
 mod command;
 #[cfg(test)]
 mod event_tests;
+#[cfg(test)]
+mod full_tests;
 mod generating;
+#[cfg(test)]
+mod import_tests;
 mod input;
 #[cfg(test)]
 mod sequence_tests;

@@ -1,37 +1,51 @@
 //! Commands one after the other over one store.
 use crate::command::run_command;
 use crate::status::Status;
-use crate::tests::{CAPS, ONE, TWIN, text_of, words};
-use mt_feed::{Feed, ListFeed};
+use crate::tests::{CAPS, NO_HEADER, ONE, TWIN, text_of, words};
+use mt_cells::Cell;
+use mt_feed::{Change, Feed, ListFeed};
 use mt_io::{MemorySink, MemorySource, SteadySink, SteadySource};
 use mt_keeper::{Keeper, MemoryKeeper, Records, SteadyKeeper};
+use mt_linear::Order;
 use std::alloc::{AllocError, Global};
 use std::process::Abort;
 use std::test::Fail;
 
-const IMPORT: &[&str] = &["4,8", "import"];
+pub(crate) const IMPORT: &[&str] = &["4,8", "import"];
 
-const VALUE: &[&str] = &["4,8", "value", "net", "2", "4", "7"];
+pub(crate) const VALUE: &[&str] = &["4,8", "value", "net", "2", "4", "7"];
 
 const GENERATE: &[&str] = &["1,1", "generate", "7", "3"];
 
 const WITHDRAW: &[u8] = b"withdraw caps7\n";
 
-const RAISED: &[u8] = b"accepted 1 caps7: raised 5\n";
+pub(crate) const RAISED: &[u8] = b"accepted 1 caps7: raised 5\n";
 
 // The words of a command, its input, and its status and output.
-type Case<'a> = (&'a [&'static str], &'a [u8], Status, &'a [u8]);
+pub(crate) type Case<'a> = (&'a [&'static str], &'a [u8], Status, &'a [u8]);
 
-fn caps7(alloc: Global) -> Result<Vec<u8>, AllocError> {
+pub(crate) fn caps7(alloc: Global) -> Result<Vec<u8>, AllocError> {
     text_of(alloc, &[(b"net 2 4 7 1 caps7\n", 1), (CAPS, 1)])
 }
 
-fn empty(alloc: Global) -> SteadyKeeper {
+// The text with a carriage return before each line feed.
+fn with_returns(alloc: Global, text: &[u8]) -> Result<Vec<u8>, AllocError> {
+    let mut bytes = Vec::new(alloc);
+    for byte in text {
+        if *byte == b'\n' {
+            bytes.push(b'\r')?;
+        }
+        bytes.push(*byte)?;
+    }
+    Ok(bytes)
+}
+
+pub(crate) fn empty(alloc: Global) -> SteadyKeeper {
     SteadyKeeper::new(Records::new(Vec::new(alloc)))
 }
 
 // Runs the commands one after the other.
-fn assert_runs(
+pub(crate) fn assert_runs(
     rt: &impl Abort,
     alloc: Global,
     keeper: &mut impl Keeper,
@@ -108,7 +122,7 @@ fn imports_are_kept(rt: HostRuntime) -> Result<(), Fail> {
 fn withdrawals_are_kept(rt: HostRuntime) -> Result<(), Fail> {
     let alloc = rt.alloc();
     let caps7 = caps7(alloc)?;
-    let cases: [Case<'_>; 6] = [
+    let cases: [Case<'_>; 9] = [
         (
             IMPORT,
             WITHDRAW,
@@ -116,6 +130,14 @@ fn withdrawals_are_kept(rt: HostRuntime) -> Result<(), Fail> {
             b"refused: no import caps7\n",
         ),
         (IMPORT, &caps7, Status::Ok, RAISED),
+        (
+            IMPORT,
+            b"withdraw none\n",
+            Status::Refused,
+            b"refused: no import none\n",
+        ),
+        (IMPORT, b"withdraw\n", Status::Refused, NO_HEADER),
+        (&["4,8", "check"], WITHDRAW, Status::Refused, NO_HEADER),
         (
             IMPORT,
             WITHDRAW,
@@ -198,20 +220,30 @@ fn a_failing_keeper_of_generated_claims(rt: HostRuntime) -> Result<(), Fail> {
     assert_runs(&rt, alloc, &mut keeper, &mut Vec::new(alloc), &cases)
 }
 
-// The first load fails, and the put of the second import.
+// Each call of the keeper fails in turn: the load and the put of the first import, and those of the
+// second. The same text is accepted afterwards.
 #[test]
 fn a_failing_keeper(rt: HostRuntime) -> Result<(), Fail> {
     let alloc = rt.alloc();
     let caps7 = caps7(alloc)?;
-    let failing = Vec::from_slice(alloc, &[1, 5])?;
-    let mut keeper = MemoryKeeper::new(Records::new(Vec::new(alloc)), failing);
-    let cases: [Case<'_>; 4] = [
+    let accepted: &[u8] = b"accepted 1 one: raised 0\n";
+    let raised: &[u8] = b"accepted 2 caps7: raised 5\n";
+    let first: [Case<'_>; 3] = [
         (IMPORT, ONE, Status::KeeperFault, b""),
-        (IMPORT, ONE, Status::Ok, b"accepted 1 one: raised 0\n"),
-        (IMPORT, &caps7, Status::KeeperFault, b""),
-        (IMPORT, &caps7, Status::Ok, b"accepted 2 caps7: raised 5\n"),
+        (IMPORT, ONE, Status::Ok, accepted),
+        (IMPORT, &caps7, Status::Ok, raised),
     ];
-    assert_runs(&rt, alloc, &mut keeper, &mut Vec::new(alloc), &cases)
+    let second: [Case<'_>; 3] = [
+        (IMPORT, ONE, Status::Ok, accepted),
+        (IMPORT, &caps7, Status::KeeperFault, b""),
+        (IMPORT, &caps7, Status::Ok, raised),
+    ];
+    for (call, cases) in [(1, &first), (2, &first), (3, &second), (4, &second)] {
+        let failing = Vec::from_slice(alloc, &[call])?;
+        let mut keeper = MemoryKeeper::new(Records::new(Vec::new(alloc)), failing);
+        assert_runs(&rt, alloc, &mut keeper, &mut Vec::new(alloc), cases)?;
+    }
+    Ok(())
 }
 
 #[test]
@@ -274,7 +306,22 @@ fn failing_sides_of_an_import(rt: HostRuntime) -> Result<(), Fail> {
     assert_runs(&rt, alloc, &mut keeper, &mut feeds, &cases)
 }
 
-// The first feed fails at its second line, and is told nothing after it.
+// The value `k` of an array of seven coordinates over two elements.
+fn change(version: u32, m: u8, depth: u8, k: u8) -> Change {
+    Change {
+        version,
+        cell: Cell::Ooa {
+            order: Order::Q2,
+            m,
+            s: 7,
+            depth,
+        },
+        k,
+    }
+}
+
+// The first feed fails at its second line, and is told nothing after it. A claim that is there already
+// is told to none.
 #[test]
 fn feeds_are_told(rt: HostRuntime) -> Result<(), Fail> {
     let alloc = rt.alloc();
@@ -284,8 +331,10 @@ fn feeds_are_told(rt: HostRuntime) -> Result<(), Fail> {
         feeds.push(Box::new(alloc, feed)?)?;
     }
     let caps7 = caps7(alloc)?;
-    let cases: [Case<'_>; 2] = [
+    let again = with_returns(alloc, &caps7)?;
+    let cases: [Case<'_>; 3] = [
         (IMPORT, &caps7, Status::Ok, RAISED),
+        (IMPORT, &again, Status::Ok, b"already 1 caps7\n"),
         (
             IMPORT,
             WITHDRAW,
@@ -294,9 +343,21 @@ fn feeds_are_told(rt: HostRuntime) -> Result<(), Fail> {
         ),
     ];
     assert_runs(&rt, alloc, &mut empty(alloc), &mut feeds, &cases)?;
-    for (feed, (failed, count)) in feeds.iter().zip(&[(true, 1usize), (false, 10)]) {
+    let told = [
+        change(1, 3, 2, 2),
+        change(1, 3, 3, 2),
+        change(1, 4, 2, 3),
+        change(1, 4, 3, 3),
+        change(1, 4, 4, 3),
+        change(2, 3, 2, 1),
+        change(2, 3, 3, 1),
+        change(2, 4, 2, 2),
+        change(2, 4, 3, 2),
+        change(2, 4, 4, 2),
+    ];
+    for (feed, (failed, kept)) in feeds.iter().zip(&[(true, &told[..1]), (false, &told[..])]) {
         assert_eq!(rt; feed.failed(), *failed);
-        assert_eq!(rt; feed.kept().len(), *count);
+        assert_eq!(rt; feed.kept(), *kept);
     }
     Ok(())
 }

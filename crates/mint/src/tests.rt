@@ -19,11 +19,11 @@ const USAGE: &[u8] = b"usage: mint STORE FEED M,S COMMAND\n";
 
 const HOLDS: &[u8] = b"holds one\n";
 
-const TOO_LONG: &[u8] = b"refused: more than 65536 bytes\n";
+pub(crate) const TOO_LONG: &[u8] = b"refused: more than 65536 bytes\n";
 
-const NO_HEADER: &[u8] = b"refused: line 1 is no header\n";
+pub(crate) const NO_HEADER: &[u8] = b"refused: line 1 is no header\n";
 
-const NO_ROW: &[u8] = b"refused: line 2 is no row\n";
+pub(crate) const NO_ROW: &[u8] = b"refused: line 2 is no row\n";
 
 pub(crate) fn words(alloc: Global, texts: &[&str]) -> Result<Vec<String>, AllocError> {
     let mut words = Vec::new(alloc);
@@ -347,11 +347,17 @@ fn failing_input_writes_nothing(rt: HostRuntime) -> Result<(), Fail> {
 #[test]
 fn failing_output_has_a_prefix(rt: HostRuntime) -> Result<(), Fail> {
     let alloc = rt.alloc();
-    for (text, prefix) in [(ONE, b"hol".as_slice()), (TWIN, b"ref")] {
+    let check: &[&str] = &["16,32", "check"];
+    let value: &[&str] = &["4,8", "value", "net", "2", "3", "3"];
+    for (texts, text, prefix) in [
+        (check, ONE, b"hol".as_slice()),
+        (check, TWIN, b"ref"),
+        (value, b"", b"net"),
+    ] {
         let mut input = MemorySource::new(Vec::from_slice(alloc, text)?, 100, Vec::new(alloc));
         let mut output = MemorySink::new(alloc, 200, Vec::from_slice(alloc, &[1])?, 3)?;
         assert_eq!(rt;
-            run_over(alloc, &["16,32", "check"], &mut input, &mut output)?,
+            run_over(alloc, texts, &mut input, &mut output)?,
             Status::WriteFault
         );
         assert_eq!(rt; output.bytes(), prefix);

@@ -1,5 +1,7 @@
-//! Tests of a store in two files that stop.
+//! Tests of stores: of one in two files that stop, and of services over keepers.
 #![tactic(auto)]
 
+#[cfg(test)]
+mod service_tests;
 #[cfg(test)]
 mod tests;

@@ -11,11 +11,11 @@ use std::alloc::Global;
 use std::process::Abort;
 use std::test::Fail;
 
-const CAPS7: &[u8] = b"net 2 4 7 1 caps7\n\
+pub(crate) const CAPS7: &[u8] = b"net 2 4 7 1 caps7\n\
 1001\n0001\n0010\n0000\n1010\n0010\n0001\n0000\n1011\n0011\n0001\n0000\n\
 1100\n0100\n0001\n0000\n1101\n0101\n0001\n0000\n1110\n0110\n0001\n0000\n1111\n0111\n0001\n0000\n";
 
-const ONE: &[u8] = b"ooa 2 2 1 1 2 one\n10\n";
+pub(crate) const ONE: &[u8] = b"ooa 2 2 1 1 2 one\n10\n";
 
 // More calls than a run makes of a file.
 const MANY_CALLS: u64 = 1000;
