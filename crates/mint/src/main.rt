@@ -12,6 +12,8 @@ mod opening;
 mod sequence_tests;
 mod sequences;
 #[cfg(test)]
+mod serve_tests;
+#[cfg(test)]
 mod served_tests;
 mod serving;
 mod start;
