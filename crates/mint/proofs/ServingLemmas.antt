@@ -10,8 +10,8 @@ use Rattle.mt_server.specs.Desks.{IfLoaded}
 use Rattle.mint.specs.declared.status.Status.TheVariants.{BadStore}
 use Rattle.mint.specs.Serving.{AskToServe, IsTurnedAway}
 use Rattle.mint.specs.Store.{AreLeft}
-use Rattle.mint.proofs.ChainLemmas.{Records, loads_left}
-use Rattle.mint.proofs.DoingLemmas.{bad_answer}
+use Rattle.mint.proofs.ChainLemmas.{Records, loads_told, loads_left}
+use Rattle.mint.proofs.DoingLemmas.{refused_for}
 
 -- words that ask to serve say one number of workers
 pub one_count : (words : List (List ℕ)) (b d : Bounds) (n m c k : ℕ) → AskToServe words b n c → AskToServe words d m k → m ≡ n
@@ -27,8 +27,16 @@ one_count words b d n m c k (port, is) (door, are) =
 
 pub refusal_away : (words : List (List ℕ)) (b : Bounds) (n c : ℕ) (x y : Records) (r : OpenRefused) → AskToServe words b n c
     → IfLoaded x y (λ records. IsOpening b records (Err r)) → r ≢ refused.KeeperFault → r ≢ refused.Memory → IsTurnedAway words x y BadStore (open_text r)
-refusal_away words b n c x y r ask (records, l, o) k m =
-    inr (b, n, c, ask, r, (bad_answer b x y records r BadStore (open_text r) l o k m refl refl).1, refl, refl)
+refusal_away words b n c x y r ask (records, l, o) k m = inr (
+  b,
+  n,
+  c,
+  ask,
+  r,
+  record { records = records; told = loads_told x y records l; refused = refused_for b records r o k m; left = loads_left x y records l },
+  refl,
+  refl,
+)
 
 pub refusal_left : (b : Bounds) (x y : Records) (r : OpenRefused) → IfLoaded x y (λ records. IsOpening b records (Err r)) → AreLeft x y
 refusal_left b x y r (records, l, o) = loads_left x y records l

@@ -1,0 +1,1 @@
+use Rattle.mint.proofs.serving.run_serve.Goals as goal
