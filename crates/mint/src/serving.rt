@@ -61,14 +61,12 @@ pub fn read_serving(words: &[String]) -> Option<Serving>
         × ((b : Bounds) (workers connections : ℕ)
         → AskToServe (map string_bytes words.now) b workers connections → workers ≡ s.workers)) }
 {
-    match read_words(words)? {
-        Command {
-            bounds,
-            task: Task::Serve {
-                port,
-                workers,
-                connections,
-            },
+    let Command { bounds, task } = read_words(words)?;
+    match task {
+        Task::Serve {
+            port,
+            workers,
+            connections,
         } => Some(Serving {
             bounds,
             port,
