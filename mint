@@ -26,6 +26,9 @@ generate SEED COUNT       imports COUNT claims that are drawn from SEED, up to 1
                             mint :memory: - 16,32 generate 1 10
 niederreiter Q M S        Niederreiter's generator matrices of a sequence, as an import text
                             mint :memory: - 16,32 niederreiter 2 10 4
+serve PORT WORKERS CONNECTIONS
+                          serves over HTTP on 127.0.0.1, by up to 16 workers, each for so many connections
+                            mint :memory: - 16,32 serve 8080 4 1000000
 HELP
     exit 0
 fi

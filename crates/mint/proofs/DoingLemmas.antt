@@ -26,7 +26,7 @@ use Rattle.mint.specs.Run.{World, IsOpened, DoesPart}
 use Rattle.mint.specs.Store.{Grows}
 use Rattle.mint.proofs.ChainLemmas.{Records, put_left, left_both, loads_told, loads_left, grows_on, told_none, told_same}
 
-refused_for : (b : Bounds) (records : List (List ℕ)) (r : OpenRefused) → IsOpening b records (Err r) → r ≢ refused.KeeperFault → r ≢ refused.Memory → AreRefused b records r
+pub refused_for : (b : Bounds) (records : List (List ℕ)) (r : OpenRefused) → IsOpening b records (Err r) → r ≢ refused.KeeperFault → r ≢ refused.Memory → AreRefused b records r
 refused_for b records refused.KeeperFault o k m = absurd (k refl)
 refused_for b records refused.Memory o k m = absurd (m refl)
 refused_for b records (refused.TooMany n) o k m = o

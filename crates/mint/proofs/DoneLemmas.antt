@@ -6,12 +6,13 @@ use Rattle.mt_cells.specs.declared.rules.RuleSet.{RuleSet}
 use Rattle.mt_derive.specs.declared.events.Event.{Event}
 use Rattle.mint.specs.declared.command.TheConstants.{MOST_READ}
 use Rattle.mint.specs.declared.status.Status.{Status}
-use Rattle.mint.specs.declared.status.Status.TheVariants.{Ok}
+use Rattle.mint.specs.declared.status.Status.TheVariants.{Ok, Words}
 use Rattle.mint.specs.declared.words.Task.{Task}
 use Rattle.mint.specs.declared.words.Task.TheVariants as task
 use Rattle.mint.specs.Doing.{AllRules, IsDone, IsStopped}
 use Rattle.mint.specs.Input.{IsInput}
 use Rattle.mint.specs.Run.{World, IsCheck, IsReply, sequence_sizes, IsSequenceFor, Does}
+use Rattle.mint.specs.Texts.{usage_text}
 use Rattle.mint.proofs.ChainLemmas.{told_none}
 
 module _ {F : Type 0} (told : F → Option (List ℕ)) (failures : F → ℕ) (b : Bounds) (rules : RuleSet) (all : AllRules rules) (t : Task) where
@@ -46,3 +47,8 @@ module _ {F : Type 0} (told : F → Option (List ℕ)) (failures : F → ℕ) (b
       → ((E : List Event) × Does b rules (task.Ask question) before after E E s output) → IsWhole before after fs fs s output
   question_done question before after fs s output is h =
       done_as (task.Ask question) before after fs fs s output is (h.0, h.0, h.1, told_none b rules told failures h.0 fs)
+
+  pub serve_done : (port n k : ℕ) (before after : World) (fs : List F) (s : Status) (output : List ℕ) → t ≡ task.Serve port n k → after.records ≡ before.records
+      → s ≡ Words → output ≡ usage_text → IsWhole before after fs fs s output
+  serve_done port n k before after fs s output is same words usage =
+      done_as (task.Serve port n k) before after fs fs s output is ([], [], (refl, same, words, usage), told_none b rules told failures [] fs)

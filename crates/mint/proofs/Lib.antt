@@ -3,7 +3,9 @@ mod DoingLemmas
 mod DoneLemmas
 mod GeneratingLemmas
 mod GrowthLemmas
+mod HiringLemmas
 mod InputLemmas
 mod RunLemmas
+mod ServingLemmas
 mod WordLemmas
 pub mod SequenceLemmas

@@ -14,7 +14,7 @@ use Rattle.mt_cells.specs.declared.asks.Question.TheVariants.{Value, Tree, Matri
 use Rattle.mt_answer.specs.Answers.{HasText}
 use Rattle.mint.specs.declared.words.Task.{Task}
 use Rattle.mint.specs.declared.words.Task.TheVariants as task
-use Rattle.mint.specs.Words.{bounds_word, IsAskFor, AreTwo, AreSeedAndCount, IsTask}
+use Rattle.mint.specs.Words.{bounds_word, IsAskFor, AreTwo, AreThree, AreSeedAndCount, ArePortAndCounts, IsTask}
 
 pub own : IsNumeralModel (AllDigits 10) (digits_value 10)
 own = numerals_by_value (AllDigits 10) tells_digits
@@ -55,6 +55,20 @@ same_count words q m seed count two is =
     let same : decimal count ≡ decimal m = cc in
     decimal_injective count m (omega (arith, is.2)) two.1 same
 
+-- words that are three numbers are no other port and counts
+pub same_counts : (words : List (List ℕ)) (q m s port workers connections : ℕ) → AreThree words q m s → ArePortAndCounts words port workers connections
+    → (port ≡ q) × (workers ≡ m) × (connections ≡ s)
+same_counts words q m s port workers connections three is =
+    let first = three.3 in
+    let then = is.6 in
+    let same_port : decimal port ≡ decimal q = cc in
+    let same_workers : decimal workers ≡ decimal m = cc in
+    let same_connections : decimal connections ≡ decimal s = cc in (
+      decimal_injective port q (omega (arith, is.1)) three.0 same_port,
+      decimal_injective workers m (omega (arith, is.3)) three.1 same_workers,
+      decimal_injective connections s (omega (arith, is.5)) three.2 same_connections,
+    )
+
 -- the word is none of those with which other tasks begin
 pub record IsOther (word : List ℕ) : Type 0 where
   pub check : word ≢ codes "check"
@@ -63,6 +77,7 @@ pub record IsOther (word : List ℕ) : Type 0 where
   pub export : word ≢ codes "export"
   pub niederreiter : word ≢ codes "niederreiter"
   pub generate : word ≢ codes "generate"
+  pub serve : word ≢ codes "serve"
 
 pub value_is_other : IsOther (codes "value")
 value_is_other = record {
@@ -72,6 +87,7 @@ value_is_other = record {
   export = λ e. let differ = ap (λ (b : List ℕ). get_or b 0 0) e in omega arith;
   niederreiter = λ e. let differ = ap (λ (b : List ℕ). get_or b 0 0) e in omega arith;
   generate = λ e. let differ = ap (λ (b : List ℕ). get_or b 0 0) e in omega arith;
+  serve = λ e. let differ = ap (λ (b : List ℕ). get_or b 0 0) e in omega arith;
 }
 
 pub tree_is_other : IsOther (codes "tree")
@@ -82,6 +98,7 @@ tree_is_other = record {
   export = λ e. let differ = ap (λ (b : List ℕ). get_or b 0 0) e in omega arith;
   niederreiter = λ e. let differ = ap (λ (b : List ℕ). get_or b 0 0) e in omega arith;
   generate = λ e. let differ = ap (λ (b : List ℕ). get_or b 0 0) e in omega arith;
+  serve = λ e. let differ = ap (λ (b : List ℕ). get_or b 0 0) e in omega arith;
 }
 
 pub matrix_is_other : IsOther (codes "matrix")
@@ -92,6 +109,7 @@ matrix_is_other = record {
   export = λ e. let differ = ap (λ (b : List ℕ). get_or b 0 0) e in omega arith;
   niederreiter = λ e. let differ = ap (λ (b : List ℕ). get_or b 0 0) e in omega arith;
   generate = λ e. let differ = ap (λ (b : List ℕ). get_or b 0 0) e in omega arith;
+  serve = λ e. let differ = ap (λ (b : List ℕ). get_or b 0 0) e in omega arith;
 }
 
 -- words whose others are no kind and sizes, and whose first is no other task's, ask for no task
@@ -111,6 +129,7 @@ asks_for_none words word rest e none other (task.Ask (LeastM q s k)) is = is
 asks_for_none words word rest e none other (task.Ask Version) is = is
 asks_for_none words word rest e none other (task.Niederreiter q m s) is = let first = is.1 in other.niederreiter (cc)
 asks_for_none words word rest e none other (task.Generate seed count) is = let first = is.1 in other.generate (cc)
+asks_for_none words word rest e none other (task.Serve port workers connections) is = let first = is.1 in other.serve (cc)
 
 -- a question that words ask for has a text
 pub asked_has_text : (words : List (List ℕ)) (question : Question) → IsTask words (task.Ask question) → HasText question

@@ -4,6 +4,7 @@ pub mod Store
 pub mod Generating
 pub mod Tallies
 pub mod Run
+pub mod Serving
 pub mod Doing
 pub mod Starts
 pub mod Statuses

@@ -84,7 +84,7 @@ module _ (b : Bounds) (rules : RuleSet) where
   abbrev pub IsImported : World → World → List Event → List Event → Outcome → Type 0
   IsImported before after E M o = (text : List ℕ) × IsInput MOST_READ before.input after.input text × IsStep b rules E text o M
 
-  -- what the task does over a list E of events, which grows to M
+  -- what the task does over a list E of events, which grows to M; serving is none of this call's
   abbrev pub Does : Task → World → World → List Event → List Event → Status → List ℕ → Type 0
   Does task.Check before after E M status output =
       (M ≡ E) × (after.records ≡ before.records) × (text : List ℕ) × IsInput MOST_READ before.input after.input text × IsCheck b text status output
@@ -95,6 +95,7 @@ module _ (b : Bounds) (rules : RuleSet) where
       (IsOpened b before after E M status output ((status ≡ Ok) × IsTextFor b rules E question output))
   Does task.Import before after E M status output =
       IsOpened b before after E M status output ((o : Outcome) × IsImported before after E M o × (status_of o ≡ Some status) × (output ≡ outcome_text o))
+  Does (task.Serve port workers connections) before after E M status output = (M ≡ E) × (after.records ≡ before.records) × (status ≡ Words) × (output ≡ usage_text)
   Does (task.Generate seed count) before after E M status output =
       IsOpened b before after E M status output ((status ≡ Ok) × IsGeneratedRun b rules seed count E M output)
 
@@ -116,6 +117,7 @@ ReadsInput task = ⊥
 abbrev pub OpensStore : Task → Type 0
 OpensStore task.Check = ⊥
 OpensStore (task.Niederreiter q m s) = ⊥
+OpensStore (task.Serve port workers connections) = ⊥
 OpensStore task = Unit {0}
 
 -- feeds of a kind F, the text that each was told, and how often it failed

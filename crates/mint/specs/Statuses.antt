@@ -3,7 +3,7 @@ use Rattle.std.specs.Prelude.{ℕ, Option, None, Some}
 use Rattle.mt_service.specs.declared.outcomes.Outcome.{Outcome}
 use Rattle.mt_service.specs.declared.outcomes.Outcome.TheVariants as outcome
 use Rattle.mint.specs.declared.status.Status.{Status}
-use Rattle.mint.specs.declared.status.Status.TheVariants.{Ok, Memory, Words, Refused, ReadFault, WriteFault, KeeperFault, BadStore, Outside}
+use Rattle.mint.specs.declared.status.Status.TheVariants.{Ok, Memory, Words, Refused, ReadFault, WriteFault, KeeperFault, BadStore, Outside, Device}
 
 abbrev pub number_of_status : Status → ℕ
 number_of_status Ok = 0
@@ -15,6 +15,7 @@ number_of_status WriteFault = 5
 number_of_status KeeperFault = 6
 number_of_status BadStore = 7
 number_of_status Outside = 8
+number_of_status Device = 9
 
 -- a command has written its whole text, or a part of it, or it was given up and has written nothing
 pub data Ending : Type 0 where
@@ -30,6 +31,7 @@ ending WriteFault = CutOff
 ending KeeperFault = GivenUp
 ending BadStore = Finished
 ending Outside = Finished
+ending Device = Finished
 
 -- how an import ends that comes to this; the keeper's fault and want of memory give it up
 abbrev pub status_of : Outcome → Option Status

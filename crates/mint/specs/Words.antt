@@ -6,7 +6,7 @@ use Rattle.mt_cells.specs.declared.asks.Kind.TheVariants.{Ooa}
 use Rattle.mt_cells.specs.declared.asks.Ask.{Ask}
 use Rattle.mt_cells.specs.declared.asks.Question.TheVariants.{Value, Tree, Matrix, Table, Export}
 use Rattle.mt_cells.specs.Texts.{kind_text}
-use Rattle.mint.specs.declared.words.TheConstants.{MOST_GENERATED}
+use Rattle.mint.specs.declared.words.TheConstants.{MOST_GENERATED, MOST_WORKERS, MOST_CONNECTIONS}
 use Rattle.mint.specs.declared.words.Task.{Task}
 use Rattle.mint.specs.declared.words.Task.TheVariants as task
 use Rattle.mint.specs.declared.words.Command.{Command}
@@ -47,6 +47,12 @@ AreThree words q m s = (q < 2 ^ 64) × (m < 2 ^ 64) × (s < 2 ^ 64) × (words �
 abbrev pub AreSeedAndCount : List (List ℕ) → ℕ → ℕ → Type 0
 AreSeedAndCount words seed count = (seed < 2 ^ 64) × (1 ≤ count) × (count ≤ MOST_GENERATED) × (words ≡ decimal seed ∷ decimal count ∷ [])
 
+-- these words are a port, how many workers, and how many connections for each
+abbrev pub ArePortAndCounts : List (List ℕ) → ℕ → ℕ → ℕ → Type 0
+ArePortAndCounts words port workers connections =
+    (1 ≤ port) × (port < 2 ^ 16) × (1 ≤ workers) × (workers ≤ MOST_WORKERS) × (1 ≤ connections) × (connections ≤ MOST_CONNECTIONS)
+    × (words ≡ decimal port ∷ decimal workers ∷ decimal connections ∷ [])
+
 -- the first word is this one, and P holds of those behind it
 abbrev pub IsBehind : List ℕ → (List (List ℕ) → Type 0) → List (List ℕ) → Type 0
 IsBehind word P words = (rest : List (List ℕ)) × (words ≡ word ∷ rest) × P rest
@@ -63,6 +69,7 @@ IsTask words (task.Ask Export) = words ≡ codes "export" ∷ []
 IsTask words (task.Ask question) = ⊥
 IsTask words (task.Niederreiter q m s) = IsBehind (codes "niederreiter") (λ rest. AreThree rest q m s) words
 IsTask words (task.Generate seed count) = IsBehind (codes "generate") (λ rest. AreSeedAndCount rest seed count) words
+IsTask words (task.Serve port workers connections) = IsBehind (codes "serve") (λ rest. ArePortAndCounts rest port workers connections) words
 
 -- the words of a command: its bounds, and then its task
 pub record IsCommand (words : List (List ℕ)) (c : Command) : Type 0 where

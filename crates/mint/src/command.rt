@@ -10,6 +10,7 @@ ghost use Rattle.mint.specs.Input.{IsInput, TakesAtMost};
 ghost use Rattle.mint.specs.Output.{Wrote, WrotePrefix};
 ghost use Rattle.mint.specs.Statuses.{Finished, CutOff, GivenUp, ending};
 ghost use Rattle.mint.specs.Store.{AreLeft};
+ghost use Rattle.mint.specs.Texts.{usage_text};
 ghost use Rattle.mint.specs.Doing.{AllRules, IsDone, IsStopped, status_given_up};
 ghost use Rattle.mint.specs.Run.{World, IsCheck, IsReply, sequence_sizes, IsSequenceFor, Does, ReadsInput, OpensStore, IsFinished, IsCutOff, IsGivenUp, LeavesInput, LeavesStore};
 
@@ -48,7 +49,7 @@ pub const MOST_READ: usize = MOST_BYTES + 1;
 /// matrices of a sequence, as an import text. `M,S generate` imports the claims of a seed one after
 /// the other, and writes how many came to what and the sum of all values. Where a number is outside
 /// the bounds, they write the first such number instead, and open no store; where the records are
-/// refused, they write why. All other words give the usage.
+/// refused, they write why. All other words give the usage, also those that serve.
 /// What is written is written once the answer is known.
 pub fn run_command<K: Keeper, R: Source, W: Sink>(
     alloc: Global,
@@ -146,7 +147,18 @@ fn done<K: Keeper, R: Source>(
         Task::Generate { seed, count } => {
             generated_all(alloc, bounds, rules, keeper, feeds, seed, count)
         }
+        Task::Serve { .. } => Ok(usage(alloc)?),
     }
+}
+
+// The answer for words that are no command of this call.
+fn usage(alloc: Global) -> Result<Answer, AllocError>
+    ensures { IfOk result (λ a. (a.status ≡ Status.Words) × (a.text.items ≡ usage_text)) }
+{
+    Ok(Answer {
+        status: Status::Words,
+        text: Vec::from_slice(alloc, USAGE)?,
+    })
 }
 
 // The answer for the text on the input.

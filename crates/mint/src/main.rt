@@ -11,11 +11,15 @@ mod generating;
 #[cfg(test)]
 mod import_tests;
 mod input;
+mod opening;
 #[cfg(test)]
 mod sequence_tests;
 mod sequences;
 #[cfg(test)]
+mod serve_tests;
+#[cfg(test)]
 mod served_tests;
+mod serving;
 mod start;
 mod status;
 #[cfg(test)]
@@ -29,20 +33,19 @@ mod texts;
 mod words;
 
 use command::{run_command, write_answer};
-use mt_feed::{Feed, LinesFeed};
 use mt_io::{Sink, StdSink, StdSource};
 use mt_keeper::{Keeper, Records, SteadyKeeper};
 use mt_keeper_sql::{SqlKeeper, Unopened};
+use opening::{UNOPENED, listen, open_feeds};
+use serving::{Hall, read_serving, run_serve};
 use start::{Start, Store, start_of};
 use status::Status;
 use std::env;
-use std::fs::{File, OpenOptions};
 use std::io::ErrorKind;
 use std::process::ExitCode;
+use std::sync::Wait;
+use std::thread::Threads;
 use texts::USAGE;
-
-// The store or the feed cannot be opened.
-const UNOPENED: u8 = 11;
 
 fn main(rt: HostRuntime) -> ExitCode {
     let mut output = StdSink::new(rt.stdout());
@@ -58,13 +61,21 @@ fn main(rt: HostRuntime) -> ExitCode {
     };
     ExitCode::from(match start_of(&words) {
         Start::Usage => write_answer(&mut output, Status::Words, USAGE).number(),
-        Start::Command { store, feed, words } => with_store(&rt, store, feed, words, &mut output),
+        Start::Command { store, feed, words } => with_store(
+            &rt,
+            &rt,
+            store,
+            feed,
+            words,
+            &mut output,
+        ),
     })
 }
 
 // Runs the command over its store, which is opened before the feed.
-fn with_store<W: Sink>(
+fn with_store<W: Sink, R: Threads + Wait + Sync>(
     rt: &HostRuntime,
+    threads: &R,
     store: Store<'_>,
     feed: Option<&str>,
     words: &[String],
@@ -72,63 +83,64 @@ fn with_store<W: Sink>(
 ) -> u8 {
     match store {
         Store::Memory => {
-            let mut keeper = SteadyKeeper::new(Records::new(Vec::new(rt.alloc())));
-            with_feed(rt, &mut keeper, feed, words, output)
+            let keeper = SteadyKeeper::new(Records::new(Vec::new(rt.alloc())));
+            with_feed(rt, threads, keeper, feed, words, output).0
         }
-        Store::Path(path) => with_file(rt, path, feed, words, output),
+        Store::Path(path) => with_file(rt, threads, path, feed, words, output),
     }
 }
 
 // Runs the command over the store at the path, which is closed behind it.
-fn with_file<W: Sink>(
+fn with_file<W: Sink, R: Threads + Wait + Sync>(
     rt: &HostRuntime,
+    threads: &R,
     path: &str,
     feed: Option<&str>,
     words: &[String],
     output: &mut W,
 ) -> u8 {
-    let mut keeper = match SqlKeeper::open(rt, path) {
+    let keeper = match SqlKeeper::open(rt, path) {
         Ok(keeper) => keeper,
         Err(Unopened::Memory) => return Status::Memory.number(),
         Err(_) => return UNOPENED,
     };
-    let status = with_feed(rt, &mut keeper, feed, words, output);
+    let (status, keeper) = with_feed(rt, threads, keeper, feed, words, output);
     // Where this fails, the records lie in the file and its log together.
     let _ = keeper.close();
     status
 }
 
-// Opens the feed, and runs the command over it and the keeper's records.
-fn with_feed<K: Keeper, W: Sink>(
+// Opens the feed and runs the words over it and the keeper's records. The keeper comes back.
+fn with_feed<K: Keeper + Send, W: Sink, R: Threads + Wait + Sync>(
     rt: &HostRuntime,
-    keeper: &mut K,
+    threads: &R,
+    keeper: K,
     feed: Option<&str>,
     words: &[String],
     output: &mut W,
-) -> u8 {
-    let mut feeds: Vec<Box<dyn Feed + Send>> = Vec::new(rt.alloc());
-    if let Some(path) = feed {
-        let file = match open_feed(rt, path) {
-            Ok(file) => file,
-            Err(status) => return status,
+) -> (u8, K) {
+    let mut feeds = match open_feeds(rt, feed) {
+        Ok(feeds) => feeds,
+        Err(status) => return (status, keeper),
+    };
+    if let Some(serving) = read_serving(words) {
+        return match listen(rt, serving.port, serving.workers) {
+            Ok(acceptors) => {
+                let hall = run_serve(threads, rt.alloc(), words, keeper, feeds, acceptors, output);
+                let Hall { status, keeper, .. } = hall;
+                (status.number(), keeper)
+            }
+            Err(status) => (status, keeper),
         };
-        let Ok(lines) = Box::new(rt.alloc(), LinesFeed::new(StdSink::new(file))) else {
-            return Status::Memory.number();
-        };
-        let lines: Box<dyn Feed + Send> = lines;
-        if feeds.push(lines).is_err() {
-            return Status::Memory.number();
-        }
     }
-    let mut input = StdSource::new(rt.stdin());
-    run_command(rt.alloc(), words, keeper, &mut feeds, &mut input, output).number()
-}
-
-// The file at the path, to whose end lines are written, or the status where it cannot be opened.
-fn open_feed(rt: &HostRuntime, path: &str) -> Result<File, u8> {
-    match OpenOptions::new().append(true).create(true).open(rt, path) {
-        Ok(file) => Ok(file),
-        Err(error) if error.kind() == ErrorKind::OutOfMemory => Err(Status::Memory.number()),
-        Err(_) => Err(UNOPENED),
-    }
+    let (mut keeper, mut input) = (keeper, StdSource::new(rt.stdin()));
+    let status = run_command(
+        rt.alloc(),
+        words,
+        &mut keeper,
+        &mut feeds,
+        &mut input,
+        output,
+    );
+    (status.number(), keeper)
 }

@@ -23,6 +23,8 @@ pub enum Status {
     BadStore,
     /// The question is outside the bounds.
     Outside,
+    /// What gives connections failed.
+    Device,
 }
 
 impl Status {
@@ -40,6 +42,7 @@ impl Status {
             Status::KeeperFault => 6,
             Status::BadStore => 7,
             Status::Outside => 8,
+            Status::Device => 9,
         }
     }
 }

@@ -55,8 +55,8 @@ pub(crate) fn opened<K: Keeper>(
     }
 }
 
-// The line for why the records are refused.
-fn bad_store(alloc: Global, refused: OpenRefused) -> Result<Answer, Cause>
+/// The line for why the records are refused.
+pub(crate) fn bad_store(alloc: Global, refused: OpenRefused) -> Result<Answer, Cause>
     ensures status { IfOk result (λ a. a.status ≡ Status.BadStore) }
     ensures line { IfOk result (λ a. a.text.items ≡ open_text refused) }
     ensures known { IfOk result (λ a. (refused ≢ OpenRefused.KeeperFault) × (refused ≢ OpenRefused.Memory)) }

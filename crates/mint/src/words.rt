@@ -4,12 +4,18 @@ ghost use Rattle.mt_cells.specs.declared.bounds.Bounds.{Bounds};
 ghost use Rattle.mt_cells.specs.declared.asks.Ask.{Ask};
 ghost use Rattle.mint.specs.declared.words.Task.{Task};
 ghost use Rattle.mint.specs.declared.words.Command.{Command};
-ghost use Rattle.mint.specs.Words.{bounds_word, IsSizes, IsAskFor, AreTwo, AreThree, AreSeedAndCount, IsTask, IsCommand};
+ghost use Rattle.mint.specs.Words.{bounds_word, IsSizes, IsAskFor, AreTwo, AreThree, AreSeedAndCount, ArePortAndCounts, IsTask, IsCommand};
 
 use mt_cells::{Ask, Bounds, Kind, Question, plain_number};
 
 /// The most claims that one command generates.
 pub const MOST_GENERATED: u32 = 1024;
+
+/// The most workers that serve side by side.
+pub const MOST_WORKERS: u32 = 16;
+
+/// The most connections that a worker serves.
+pub const MOST_CONNECTIONS: u64 = 1_000_000;
 
 /// A command, and the bounds of the table.
 #[derive(Clone, Copy, PartialEq, Eq, Debug)]
@@ -28,9 +34,22 @@ pub enum Task {
     /// Import one text from the input: an import text, or a withdrawal text.
     Import,
     /// Write Niederreiter's matrices over the field of q elements, of m columns, for s coordinates.
-    Niederreiter { q: u64, m: u64, s: u64 },
+    Niederreiter {
+        q: u64,
+        m: u64,
+        s: u64,
+    },
     /// Import so many claims that follow from the seed: 1 to [`MOST_GENERATED`].
-    Generate { seed: u64, count: u32 },
+    Generate {
+        seed: u64,
+        count: u32,
+    },
+    /// Serve at the port, by so many workers, each for so many connections.
+    Serve {
+        port: u16,
+        workers: u32,
+        connections: u64,
+    },
 }
 
 /// The command of these words, or `None` where they have no form:
@@ -42,7 +61,9 @@ pub enum Task {
 /// - `M,S export`;
 /// - `M,S import`;
 /// - `M,S niederreiter Q M S`;
-/// - `M,S generate SEED COUNT`, COUNT being 1 to [`MOST_GENERATED`].
+/// - `M,S generate SEED COUNT`, COUNT being 1 to [`MOST_GENERATED`];
+/// - `M,S serve PORT WORKERS CONNECTIONS`, PORT being 1 to 65,535, WORKERS 1 to [`MOST_WORKERS`], and
+///   CONNECTIONS 1 to [`MOST_CONNECTIONS`].
 ///
 /// `M,S` are bounds. A number is decimal, without sign and without a zero in front but for `0`
 /// itself, and is below 2^64.
@@ -109,6 +130,14 @@ fn read_task(words: &[String]) -> Option<Task>
             let (seed, count) = read_seed_and_count(words)?;
             Some(Task::Generate { seed, count })
         }
+        "serve" => {
+            let (port, workers, connections) = read_port_and_counts(words)?;
+            Some(Task::Serve {
+                port,
+                workers,
+                connections,
+            })
+        }
         _ => None,
     }
 }
@@ -152,6 +181,25 @@ fn read_seed_and_count(words: &[String]) -> Option<(u64, u32)>
         return None;
     }
     Some((seed, count as u32))
+}
+
+// The port, the workers and the connections that the words are.
+fn read_port_and_counts(words: &[String]) -> Option<(u16, u32, u64)>
+    ensures { MatchOption result
+        ((port workers connections : ℕ) → ¬ ArePortAndCounts (map string_bytes words.now) port workers connections)
+        (λ r. ArePortAndCounts (map string_bytes words.now) r.0 r.1 r.2) }
+{
+    let (port, workers, connections) = read_three(words)?;
+    if port == 0 || port > u16::MAX as u64 {
+        return None;
+    }
+    if workers == 0 || workers > MOST_WORKERS as u64 {
+        return None;
+    }
+    if connections == 0 || connections > MOST_CONNECTIONS {
+        return None;
+    }
+    Some((port as u16, workers as u32, connections))
 }
 
 // The kind and the sizes of a question.

@@ -3,7 +3,7 @@ use Rattle.std.proofs.lemmas.Result.{IfOk-weaker, IfErr-weaker}
 use Rattle.mint.specs.declared.words.Task.TheVariants as task
 use Rattle.mint.specs.Doing.{status_given_up}
 use Rattle.mint.specs.Run.{World}
-use Rattle.mint.proofs.DoneLemmas.{done_as, stopped_as, check_done, sequence_done, question_done}
+use Rattle.mint.proofs.DoneLemmas.{done_as, stopped_as, check_done, sequence_done, question_done, serve_done}
 use Rattle.mint.proofs.command.done.Goals as goal
 
 pub returns-in-Check-clause-answer : goal.returns-in-Check-clause-answer
@@ -73,3 +73,12 @@ returns-in-Generate-clause-stopped g c =
     stopped_as _ _ c.args.command.bounds c.all-rules.result c.all-rules.ensures c.args.command.task (task.Generate sizes.seed sizes.count) before after _ _ (status_given_up e) sizes.is
     (h (g.R.Source.left c.args.input.now) x y))
     c.generated_all.ensures.stopped
+
+pub returns-in_ok-usage-in-Serve-clause-answer : goal.returns-in_ok-usage-in-Serve-clause-answer
+returns-in_ok-usage-in-Serve-clause-answer g c = λ x y.
+    let before : World = record { input = g.R.Source.left c.args.input.now; output = x; records = g.K.Keeper.records c.args.keeper.now } in
+    let after : World = record { input = g.R.Source.left c.args.input.now; output = y; records = g.K.Keeper.records c.args.keeper.now } in
+    let made = c.in_ok-usage-in-Serve in
+    let sizes = c.in-Serve in
+    serve_done _ _ c.args.command.bounds c.all-rules.result c.all-rules.ensures c.args.command.task sizes.port sizes.workers sizes.connections before after c.args.feeds.now.items
+    made.field-0.status made.field-0.text.items sizes.is refl made.ensures.0 made.ensures.1
