@@ -35,7 +35,7 @@ fn texts_of_another_form_are_refused(rt: HostRuntime) -> Result<(), Fail> {
     assert_runs(&rt, alloc, &mut empty(alloc), &mut Vec::new(alloc), &cases)
 }
 
-// The least refused and the greatest taken number of choices, and a size over the greatest bounds.
+// Too many choices, a dependent claim of 646,646 choices, and a size over the greatest bounds.
 #[test]
 fn large_texts_are_refused(rt: HostRuntime) -> Result<(), Fail> {
     let alloc = rt.alloc();
