@@ -80,9 +80,10 @@ fn assert_served<R: Threads + Wait + Sync + Abort>(
     written: &[u8],
 ) -> Result<(), Fail> {
     let words = words(alloc, texts)?;
-    let acceptors = acceptors(alloc, &words, streams)?;
+    let words = words.as_slice();
+    let acceptors = acceptors(alloc, words, streams)?;
     let mut output = SteadySink::new(alloc, 64)?;
-    assert_eq!(rt; serve_by(rt, alloc, &words, acceptors, &mut output), end);
+    assert_eq!(rt; serve_by(rt, alloc, words, acceptors, &mut output), end);
     assert_eq!(rt; output.bytes(), written);
     Ok(())
 }
