@@ -33,10 +33,11 @@ mod texts;
 mod words;
 
 use command::{run_command, write_answer};
+use mt_feed::{Feed, LinesFeed};
 use mt_io::{Sink, StdSink, StdSource};
 use mt_keeper::{Keeper, Records, SteadyKeeper};
 use mt_keeper_sql::{SqlKeeper, Unopened};
-use opening::{UNOPENED, listen, open_feeds};
+use opening::{UNOPENED, listen, open_feed};
 use serving::{Hall, read_serving, run_serve};
 use start::{Start, Store, start_of};
 use status::Status;
@@ -119,10 +120,32 @@ fn with_feed<K: Keeper + Send, W: Sink, R: Threads + Wait + Sync>(
     words: &[String],
     output: &mut W,
 ) -> (u8, K) {
-    let mut feeds = match open_feeds(rt, feed) {
-        Ok(feeds) => feeds,
-        Err(status) => return (status, keeper),
-    };
+    let mut feeds: Vec<Box<dyn Feed + Send>> = Vec::new(rt.alloc());
+    if let Some(path) = feed {
+        let file = match open_feed(rt, path) {
+            Ok(file) => file,
+            Err(status) => return (status, keeper),
+        };
+        let Ok(lines) = Box::new(rt.alloc(), LinesFeed::new(StdSink::new(file))) else {
+            return (Status::Memory.number(), keeper);
+        };
+        let lines: Box<dyn Feed + Send> = lines;
+        if feeds.push(lines).is_err() {
+            return (Status::Memory.number(), keeper);
+        }
+    }
+    run_over(rt, threads, keeper, feeds, words, output)
+}
+
+// Runs the words over the keeper's records and the feeds. The keeper comes back.
+fn run_over<K: Keeper + Send, W: Sink, R: Threads + Wait + Sync>(
+    rt: &HostRuntime,
+    threads: &R,
+    keeper: K,
+    feeds: Vec<Box<dyn Feed + Send>>,
+    words: &[String],
+    output: &mut W,
+) -> (u8, K) {
     if let Some(serving) = read_serving(words) {
         return match listen(rt, serving.port, serving.workers) {
             Ok(acceptors) => {
@@ -133,7 +156,8 @@ fn with_feed<K: Keeper + Send, W: Sink, R: Threads + Wait + Sync>(
             Err(status) => (status, keeper),
         };
     }
-    let (mut keeper, mut input) = (keeper, StdSource::new(rt.stdin()));
+    let (mut keeper, mut feeds) = (keeper, feeds);
+    let mut input = StdSource::new(rt.stdin());
     let status = run_command(
         rt.alloc(),
         words,

@@ -2,8 +2,7 @@
 ghost use Rattle.std.specs.Prelude.{◌≡◌, length, IfOk};
 
 use crate::status::Status;
-use mt_feed::{Feed, LinesFeed};
-use mt_io::{StdSink, TcpAcceptor};
+use mt_io::TcpAcceptor;
 use std::alloc::{AllocError, Global};
 use std::fs::{File, OpenOptions};
 use std::io::{Error, ErrorKind};
@@ -17,28 +16,13 @@ pub const UNOPENED: u8 = 11;
 /// The longest wait for one read or one write of a connection, in seconds.
 pub const PATIENCE: u64 = 10;
 
-/// The feeds: one that writes lines to the end of the file at the path, or none. The status where it
-/// cannot be opened.
-pub fn open_feeds(rt: &HostRuntime, feed: Option<&str>) -> Result<Vec<Box<dyn Feed + Send>>, u8> {
-    match feed {
-        Some(path) => {
-            let file = OpenOptions::new()
-                .append(true)
-                .create(true)
-                .open(rt, path)
-                .map_err(unopened)?;
-            lines_to(rt.alloc(), file).map_err(wanting)
-        }
-        None => Ok(Vec::new(rt.alloc())),
-    }
-}
-
-// A feed that writes its lines to the file.
-fn lines_to(alloc: Global, file: File) -> Result<Vec<Box<dyn Feed + Send>>, AllocError> {
-    let lines: Box<dyn Feed + Send> = Box::new(alloc, LinesFeed::new(StdSink::new(file)))?;
-    let mut feeds = Vec::new(alloc);
-    feeds.push(lines)?;
-    Ok(feeds)
+/// The file at the path, to whose end lines are written, or the status where it cannot be opened.
+pub fn open_feed(rt: &HostRuntime, path: &str) -> Result<File, u8> {
+    OpenOptions::new()
+        .append(true)
+        .create(true)
+        .open(rt, path)
+        .map_err(unopened)
 }
 
 /// So many acceptors that share a listener at this port of 127.0.0.1, or the status where it cannot
