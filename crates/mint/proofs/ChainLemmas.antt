@@ -1,5 +1,5 @@
 -- What is put and told of a list of events that grows, and where it stays.
-use Rattle.std.proofs.Common.{◌≡◌, ℕ, List, [], ◌∷◌, ◌++◌, map, Option, None, Some, Ok, refl, sym, ap, ◌∙◌, subst, append-nil, append_assoc}
+use Rattle.std.proofs.Common.{◌≡◌, ℕ, List, [], ◌∷◌, ◌++◌, map, Option, None, Some, Ok, refl, sym, ap, ◌∙◌, append-nil, append_assoc}
 use Rattle.std.specs.List.{AllZip}
 use Rattle.std.proofs.lemmas.List.{append_cancel_left}
 use Rattle.mt_io.specs.Told.{WhereTold}
@@ -9,7 +9,7 @@ use Rattle.mt_cells.specs.declared.rules.RuleSet.{RuleSet}
 use Rattle.mt_feed.specs.Faring.{Fares}
 use Rattle.mt_feed.proofs.FaringLemmas.{fares_none}
 use Rattle.mt_derive.specs.declared.events.Event.{Event}
-use Rattle.mt_service.specs.Records.{StandFor, IsKept, ArePut, event_text}
+use Rattle.mt_service.specs.Records.{StandFor, ArePut, event_text}
 use Rattle.mt_service.specs.Telling.{AreLines, AreTold}
 use Rattle.mint.specs.Store.{AreLeft, Grows}
 
@@ -86,12 +86,6 @@ loads_left None None records l = tt
 loads_left None (Some b) records l = absurd l
 loads_left (Some a) None records l = tt
 loads_left (Some a) (Some b) records l = l.0
-
-pub opened_kept : (b : Bounds) (x y : Records) (records : List (List ℕ)) (E : List Event) → Loads {E = Unit {0}} x y (Ok records) → StandFor b records E → IsKept b y E
-opened_kept b None None records E l stand = tt
-opened_kept b None (Some c) records E l stand = absurd l
-opened_kept b (Some a) None records E l stand = tt
-opened_kept b (Some a) (Some c) records E l stand = subst (λ (r : List (List ℕ)). StandFor b r E) (l.1 ∙ sym l.0) stand
 
 pub opened_grows : (b : Bounds) (x y : Records) (records : List (List ℕ)) (E : List Event) → Loads {E = Unit {0}} x y (Ok records) → StandFor b records E → Grows b x y E E
 opened_grows b x y records E l stand = record { records = records; told = loads_told x y records l; stand = stand; put = left_put x y E (loads_left x y records l) }

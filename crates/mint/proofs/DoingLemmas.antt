@@ -1,6 +1,5 @@
 -- What a task did, from what its parts did.
-use Rattle.std.proofs.Common.{◌≡◌, ◌≢◌, ℕ, List, [], Option, Ok, Err, ◌⊎◌, inl, inr, refl, ap}
-use Rattle.mt_keeper.specs.Keeping.{Loads}
+use Rattle.std.proofs.Common.{◌≡◌, ◌≢◌, ℕ, List, [], Option, Err, ◌⊎◌, inl, inr, refl, ap}
 use Rattle.mt_cells.specs.declared.bounds.Bounds.{Bounds}
 use Rattle.mt_cells.specs.declared.rules.RuleSet.{RuleSet}
 use Rattle.mt_derive.specs.declared.events.Event.{Event}
@@ -11,12 +10,10 @@ use Rattle.mt_service.specs.Opening.{IsOpening, AreRefused}
 use Rattle.mt_service.specs.Records.{ArePut}
 use Rattle.mt_service.specs.Steps.{IsStep}
 use Rattle.mt_service.specs.Telling.{AreTold}
-use Rattle.mt_service.specs.Texts.{open_text}
 use Rattle.mint.specs.declared.causes.Cause.{Cause}
 use Rattle.mint.specs.declared.causes.Cause.TheVariants as cause
 use Rattle.mint.specs.declared.command.TheConstants.{MOST_READ}
 use Rattle.mint.specs.declared.status.Status.{Status}
-use Rattle.mint.specs.declared.status.Status.TheVariants as status
 use Rattle.mint.specs.declared.words.Task.{Task}
 use Rattle.mint.specs.declared.words.Task.TheVariants as task
 use Rattle.mint.specs.Doing.{status_given_up, IsBadAnswer, IsStopped}
@@ -24,23 +21,13 @@ use Rattle.mint.specs.Generating.{IsPartlyGenerated}
 use Rattle.mint.specs.Input.{IsInput}
 use Rattle.mint.specs.Run.{World, IsOpened, DoesPart}
 use Rattle.mint.specs.Store.{Grows}
-use Rattle.mint.proofs.ChainLemmas.{Records, put_left, left_both, loads_told, loads_left, grows_on, told_none, told_same}
+use Rattle.mint.proofs.ChainLemmas.{Records, put_left, left_both, grows_on, told_none, told_same}
 
 pub refused_for : (b : Bounds) (records : List (List ℕ)) (r : OpenRefused) → IsOpening b records (Err r) → r ≢ refused.KeeperFault → r ≢ refused.Memory → AreRefused b records r
 refused_for b records refused.KeeperFault o k m = absurd (k refl)
 refused_for b records refused.Memory o k m = absurd (m refl)
 refused_for b records (refused.TooMany n) o k m = o
 refused_for b records (refused.BadRecord n w) o k m = o
-
--- the line for records that are refused
-pub bad_answer : (b : Bounds) (x y : Records) (records : List (List ℕ)) (r : OpenRefused) (s : Status) (text : List ℕ) → Loads {E = Unit {0}} x y (Ok records)
-    → IsOpening b records (Err r) → r ≢ refused.KeeperFault → r ≢ refused.Memory → s ≡ status.BadStore → text ≡ open_text r → IsBadAnswer b x y s text
-bad_answer b x y records r s text l o k m is line = (
-  r,
-  record { records = records; told = loads_told x y records l; refused = refused_for b records r o k m; left = loads_left x y records l },
-  is,
-  line,
-)
 
 module _ {F : Type 0} (told : F → Option (List ℕ)) (failures : F → ℕ) (b : Bounds) (rules : RuleSet) where
   -- what comes of a task that does Q over the list of the opened store

@@ -1,10 +1,12 @@
 -- How serving ends, from its words and from what its desk refused.
-use Rattle.std.proofs.Common.{◌≡◌, ◌≢◌, ℕ, ◌<◌, ◌≤◌, List, Ok, Err, inr, refl, subst, arith, decimal}
+use Rattle.std.proofs.Common.{◌≡◌, ◌≢◌, ℕ, ◌<◌, ◌≤◌, List, None, Some, Err, inr, refl, subst, arith, decimal}
 use Rattle.std.proofs.lemmas.Fmt.{decimal_injective}
 use Rattle.mt_cells.specs.declared.bounds.Bounds.{Bounds}
+use Rattle.mt_derive.specs.declared.events.Event.{Event}
 use Rattle.mt_service.specs.declared.opening.OpenRefused.{OpenRefused}
 use Rattle.mt_service.specs.declared.opening.OpenRefused.TheVariants as refused
 use Rattle.mt_service.specs.Opening.{IsOpening}
+use Rattle.mt_service.specs.Records.{StandFor, IsKept}
 use Rattle.mt_service.specs.Texts.{open_text}
 use Rattle.mt_server.specs.Desks.{IfLoaded}
 use Rattle.mint.specs.declared.status.Status.TheVariants.{BadStore}
@@ -30,11 +32,11 @@ one_count words b d n m c k (port, is) (door, are) =
 
 -- what words ask for that are a command to serve
 pub serving_asked : (words : List (List ℕ)) (b : Bounds) (t : Task) (port n c : ℕ) → IsCommand words (record { bounds = b; task = t }) → t ≡ task.Serve port n c
-    → AskToServe words b n c × (0 < n) × (n ≤ 16) × ((d : Bounds) (m k : ℕ) → AskToServe words d m k → m ≡ n)
+    → IsCommand words (record { bounds = b; task = task.Serve port n c }) × (0 < n) × (n ≤ 16) × ((d : Bounds) (m k : ℕ) → AskToServe words d m k → m ≡ n)
 serving_asked words b t port n c is e =
     let asks : IsCommand words (record { bounds = b; task = task.Serve port n c }) = subst (λ (x : Task). IsCommand words (record { bounds = b; task = x })) e is in
     let numbers = asks.task.2 in (
-      (port, asks),
+      asks,
       omega (arith, numbers.2),
       omega (arith, numbers.3),
       λ d m k ask. one_count words b d n m c k (port, asks) ask,
@@ -55,3 +57,9 @@ refusal_away words b n c x y r ask (records, l, o) k m = inr (
 
 pub refusal_left : (b : Bounds) (x y : Records) (r : OpenRefused) → IfLoaded x y (λ records. IsOpening b records (Err r)) → AreLeft x y
 refusal_left b x y r (records, l, o) = loads_left x y records l
+
+-- where a keeper tells its records behind the load, they were the same before it
+pub loaded_kept : (b : Bounds) (x y : Records) (E : List Event) → y ≢ None → IfLoaded x y (λ records. StandFor b records E) → IsKept b x E
+loaded_kept b None y E some l = tt
+loaded_kept b (Some a) None E some l = absurd (some refl)
+loaded_kept b (Some a) (Some c) E some (records, l, stand) = subst (λ (r : List (List ℕ)). StandFor b r E) l.1 stand

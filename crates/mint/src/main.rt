@@ -30,6 +30,8 @@ mod table_tests;
 #[cfg(test)]
 mod tests;
 mod texts;
+#[cfg(test)]
+mod waiting_tests;
 mod words;
 
 use command::{run_command, write_answer};

@@ -1,5 +1,5 @@
 //! The feed and the port of a command, as files and sockets.
-ghost use Rattle.std.specs.Prelude.{◌≡◌, length, IfOk};
+ghost use Rattle.std.specs.Prelude.{◌≡◌, ◌⊎◌, length, IfOk, IfErr};
 
 use crate::status::Status;
 use mt_io::TcpAcceptor;
@@ -17,7 +17,9 @@ pub const UNOPENED: u8 = 11;
 pub const PATIENCE: u64 = 10;
 
 /// The file at the path, to whose end lines are written, or the status where it cannot be opened.
-pub fn open_feed(rt: &HostRuntime, path: &str) -> Result<File, u8> {
+pub fn open_feed(rt: &HostRuntime, path: &str) -> Result<File, u8>
+    ensures { IfErr result (λ status. (status ≡ 1) ⊎ (status ≡ 11)) }
+{
     OpenOptions::new()
         .append(true)
         .create(true)
@@ -28,7 +30,8 @@ pub fn open_feed(rt: &HostRuntime, path: &str) -> Result<File, u8> {
 /// So many acceptors that share a listener at this port of 127.0.0.1, or the status where it cannot
 /// be opened. A read or a write of their connections that waits longer than [`PATIENCE`] is a fault.
 pub fn listen(rt: &HostRuntime, port: u16, count: u32) -> Result<Vec<TcpAcceptor>, u8>
-    ensures { IfOk result (λ acceptors. length acceptors.items ≡ count) }
+    ensures acceptors { IfOk result (λ acceptors. length acceptors.items ≡ count) }
+    ensures status { IfErr result (λ status. (status ≡ 1) ⊎ (status ≡ 11)) }
 {
     let listener = TcpListener::bind(rt, (Ipv4Addr::LOCALHOST, port)).map_err(unopened)?;
     acceptors_of(rt.alloc(), listener, count).map_err(wanting)
@@ -52,7 +55,9 @@ fn acceptors_of(
 }
 
 // The status for what cannot be opened.
-fn unopened(error: Error) -> u8 {
+fn unopened(error: Error) -> u8
+    ensures { (result ≡ 1) ⊎ (result ≡ 11) }
+{
     match error.kind() {
         ErrorKind::OutOfMemory => Status::Memory.number(),
         _ => UNOPENED,
@@ -60,6 +65,8 @@ fn unopened(error: Error) -> u8 {
 }
 
 // The status for want of memory.
-fn wanting(_error: AllocError) -> u8 {
+fn wanting(_error: AllocError) -> u8
+    ensures { result ≡ 1 }
+{
     Status::Memory.number()
 }

@@ -1,5 +1,5 @@
 //! Serving by one worker, over a link in memory.
-ghost use Rattle.std.specs.Prelude.{◌≡◌, ℕ, map, length, vec_len, string_bytes, IfOk};
+ghost use Rattle.std.specs.Prelude.{◌≡◌, ℕ, map, vec_len, string_bytes, IfOk};
 ghost use Rattle.mt_cells.specs.declared.bounds.Bounds.{Bounds};
 ghost use Rattle.mint.specs.Serving.{AskToServe};
 
@@ -25,23 +25,17 @@ fn links(alloc: Global, streams: &[&[u8]]) -> Result<Vec<MemoryLink>, Fail> {
     Ok(links)
 }
 
-// One acceptor, which gives links with these streams. The words ask for one worker, or for none.
-fn acceptors(
-    alloc: Global,
-    words: &[String],
-    streams: &[&[u8]],
-) -> Result<Vec<MemoryAcceptor>, Fail>
+/// The acceptors, where the words ask for as many workers or don't ask to serve.
+pub(crate) fn as_many<A: Drop>(words: &[String], acceptors: Vec<A>) -> Result<Vec<A>, Fail>
     ensures { IfOk result (λ acceptors. (b : Bounds) (workers connections : ℕ)
         → AskToServe (map string_bytes words.now) b workers connections
         → vec_len acceptors ≡ workers) }
 {
     if let Some(serving) = read_serving(words) {
-        if serving.workers != 1 {
-            return Err("one worker")?;
+        if serving.workers as usize != acceptors.len() {
+            return Err("as many acceptors as workers")?;
         }
     }
-    let mut acceptors = Vec::new(alloc);
-    acceptors.push(MemoryAcceptor::new(links(alloc, streams)?))?;
     Ok(acceptors)
 }
 
@@ -81,7 +75,9 @@ fn assert_served<R: Threads + Wait + Sync + Abort>(
 ) -> Result<(), Fail> {
     let words = words(alloc, texts)?;
     let words = words.as_slice();
-    let acceptors = acceptors(alloc, words, streams)?;
+    let mut acceptors = Vec::new(alloc);
+    acceptors.push(MemoryAcceptor::new(links(alloc, streams)?))?;
+    let acceptors = as_many(words, acceptors)?;
     let mut output = SteadySink::new(alloc, 64)?;
     assert_eq!(rt; serve_by(rt, alloc, words, acceptors, &mut output), end);
     assert_eq!(rt; output.bytes(), written);

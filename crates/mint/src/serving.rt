@@ -1,5 +1,5 @@
 //! The top call of serving: a desk is opened, and workers serve it.
-ghost use Rattle.std.specs.Prelude.{◌≡◌, ◌≢◌, ◌<◌, ◌≤◌, ◌^◌, ℕ, List, [], All, map, length, slice_index_or, vec_len, vec_capacity, string_bytes, IfOk, IfErr, MatchOption};
+ghost use Rattle.std.specs.Prelude.{◌≡◌, ◌≢◌, ◌<◌, ◌≤◌, ◌^◌, ℕ, List, [], All, map, length, slice_index_or, vec_len, vec_capacity, string_bytes, MatchOption, None};
 ghost use Rattle.mt_io.specs.Faults.{Rose};
 ghost use Rattle.mt_cells.specs.declared.bounds.Bounds.{Bounds};
 ghost use Rattle.mt_derive.specs.declared.events.Event.{Event};
@@ -9,10 +9,12 @@ ghost use Rattle.mt_service.specs.Records.{IsKept};
 ghost use Rattle.mt_service.specs.Texts.{open_text};
 ghost use Rattle.mt_server.specs.declared.workers.ServeEnd.{ServeEnd};
 ghost use Rattle.mt_server.specs.Workers.{AreServed, Worked};
+ghost use Rattle.mint.specs.declared.words.Task.TheVariants as task;
 ghost use Rattle.mint.specs.Output.{Wrote, WrotePrefix};
 ghost use Rattle.mint.specs.Serving.{AskToServe, AskForNoServing, IsTurnedAway, HasBegun, status_of_serving};
 ghost use Rattle.mint.specs.Statuses.{Finished, CutOff, GivenUp, ending};
 ghost use Rattle.mint.specs.Store.{AreLeft};
+ghost use Rattle.mint.specs.Words.{IsCommand};
 
 use crate::command::write_answer;
 use crate::status::Status;
@@ -56,8 +58,10 @@ pub struct Serving {
 /// What the words ask for, where they ask to serve: `M,S serve PORT WORKERS CONNECTIONS`.
 pub fn read_serving(words: &[String]) -> Option<Serving>
     ensures { MatchOption result (AskForNoServing (map string_bytes words.now))
-        (λ s. AskToServe (map string_bytes words.now) s.bounds s.workers s.connections
-        × (0 < s.workers) × (s.workers ≤ 16)
+        (λ s. IsCommand (map string_bytes words.now) (record {
+          bounds = s.bounds;
+          task = task.Serve s.port s.workers s.connections;
+        }) × (0 < s.workers) × (s.workers ≤ 16)
         × ((b : Bounds) (workers connections : ℕ)
         → AskToServe (map string_bytes words.now) b workers connections → workers ≡ s.workers)) }
 {
@@ -96,7 +100,12 @@ where
         → AskToServe (map string_bytes words.now) b workers connections
         → vec_len acceptors ≡ workers }
 
-    // Workers began: one for each acceptor, in their order, of which each did what it says.
+    // Workers began, over records that stand for a list where the keepers of this type tell them:
+    // one for each acceptor, in their order, of which each did what it says.
+    ensures opened { HasBegun result.status → ((k : K) → K.records k ≢ None)
+        → (b : Bounds) × (workers connections : ℕ)
+        × AskToServe (map string_bytes words.now) b workers connections
+        × ((L : List Event) × IsKept b (K.records keeper) L) }
     ensures served { HasBegun result.status → (b : Bounds) × (workers connections : ℕ)
         × AskToServe (map string_bytes words.now) b workers connections
         × ((M : List Event) × IsKept b (K.records result.keeper) M)

@@ -4,7 +4,6 @@ use Rattle.mt_cells.specs.declared.bounds.Bounds.{Bounds}
 use Rattle.mt_cells.specs.declared.rules.RuleSet.{RuleSet}
 use Rattle.mt_cells.specs.declared.asks.Question.{Question}
 use Rattle.mt_derive.specs.declared.events.Event.{Event}
-use Rattle.mt_http.specs.Finding.{Finds, asked_for}
 use Rattle.mt_http.specs.Items.{Request}
 use Rattle.mt_http.specs.Responses.{IsStatus}
 use Rattle.mt_http.specs.declared.finding.Asked.{Asked}
@@ -189,17 +188,6 @@ get_answered v a q at_least k reply body r w is wanted h e =
     (reply, subst (λ (n : ℕ). IsQuestionAnswered v q n reply w) wanted h, e)
 
 -- ---- what a request is answered
-
--- an address that was found, and the answer to what is asked there
-pub request_answered : (v : Viewed) (request : Request) (a : Asked) (target body : List ℕ) (r : Response) (w : Viewed)
-    → ((f : _) × Finds target f × (a ≡ asked_for request.verb f)) → target ≡ request.target → body ≡ request.body
-    → IsAskedAnswered v a body r w → IsAnswered v request r w
-request_answered v request a target body r w found target_is body_is h = (
-  found.0,
-  subst (λ (t : List ℕ). Finds t found.0) target_is found.1,
-  subst (λ (b : List ℕ). IsAskedAnswered v (asked_for request.verb found.0) b r w) body_is
-      (subst (λ (x : Asked). IsAskedAnswered v x body r w) found.2 h),
-)
 
 -- its bytes, where there is memory for them
 pub bytes_answered : {B E : Type 0} (result : Result B E) (items : B → List ℕ) (v : Viewed) (request : Request) (d : Response) (w : Viewed) (close : Bool) (old new : ℕ)

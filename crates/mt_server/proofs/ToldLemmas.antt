@@ -3,10 +3,6 @@ use Rattle.std.proofs.Common.{◌≡◌, ℕ, List, ◌++◌, take, ap, ◌∙�
 use Rattle.mt_io.specs.Streams.{AppendsPrefix}
 use Rattle.mt_io.specs.Told.{WhereTold}
 
-pub told_self : {A : Type 0} (x : Option A) (R : A → A → Type 0) → ((u : A) → R u u) → WhereTold x x R
-told_self None R f = tt
-told_self (Some u) R f = f u
-
 pub told_map : {A : Type 0} (x y : Option A) (R S : A → A → Type 0) → ((u v : A) → R u v → S u v) → WhereTold x y R → WhereTold x y S
 told_map None None R S f h = tt
 told_map None (Some v) R S f h = h

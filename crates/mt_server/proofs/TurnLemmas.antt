@@ -1,5 +1,5 @@
 -- A turn, behind those of a connection so far.
-use Rattle.std.proofs.Common.{◌≡◌, ◌≢◌, ℕ, ◌+◌, ◌≤◌, ◌<◌, ◌^◌, ◌-◌, ◌==◌, ◌||◌, ◌⊎◌, cond, Bool, true, false, List, [], ◌∷◌, ◌++◌, length, take, drop, true≢false, inl, inr, refl, sym, ap, ◌∙◌, subst, arith, append_assoc, append-nil, length-append, Option}
+use Rattle.std.proofs.Common.{◌≡◌, ◌≢◌, ℕ, ◌+◌, ◌≤◌, ◌<◌, ◌^◌, ◌-◌, ◌==◌, ◌||◌, ◌⊎◌, cond, Bool, true, false, List, [], ◌∷◌, ◌++◌, length, take, drop, true≢false, inl, inr, refl, sym, ap, ◌∙◌, subst, arith, append_assoc, length-append, Option}
 use Rattle.std.proofs.lemmas.Bool.Decides.{eqb_tells}
 use mathlib.Core.List.{IsPrefix}
 use Rattle.std.proofs.lemmas.List.{take-append-drop}
@@ -17,7 +17,7 @@ use Rattle.mt_server.specs.declared.connection.TheConstants.{MOST_RESPONSES}
 use Rattle.mt_server.specs.Replies.{response_text}
 use Rattle.mt_server.specs.Connections.{Viewed, Exchange, AreAnswered, AllStay, LastCloses, responses_text, IsEnd, IsConnection, keeper_faults, Counted}
 use Rattle.mt_server.specs.Turns.{next_after, IsSent, is_last, IsReplied, IsIdle, IsStop, IsTurn, HasServed, IsAfter, IsLookCounted}
-use Rattle.mt_server.proofs.ToldLemmas.{told_self, told_text, told_same, told_part}
+use Rattle.mt_server.proofs.ToldLemmas.{told_text, told_same, told_part}
 use Rattle.mt_server.proofs.ExchangeLemmas.{answers_more, requests_more, responses_more, stay_more, all_stay, faults_more}
 
 -- ---- what follows a response
@@ -69,34 +69,6 @@ looks_more l₀ l₁ l₂ m₀ m₁ m₂ (inr a) (inr b) = inr (omega (arith, a,
 looks_more l₀ l₁ l₂ m₀ m₁ m₂ (inl a) (inr b) = grind arith
 
 -- ---- turns
-
--- nothing is answered yet
-pub served_none : (v : Viewed) (stream : List ℕ) (before : Option (List ℕ)) (tally : ℕ) → HasServed 1 v v stream stream before before tally tally
-served_none v stream before tally = record {
-  exchanges = [];
-  count = refl;
-  requests = refl;
-  answers = refl;
-  stay = tt;
-  wrote = told_self before (λ old new. new ≡ old ++ []) (λ u. sym (append-nil u));
-  faults = inl (omega arith);
-}
-
--- a connection that wants memory
-pub ended_memory : (v : Viewed) (stream : List ℕ) (before : Option (List ℕ)) (tally : ℕ)
-    → IsConnection v v stream stream before before tally tally ended.Memory
-ended_memory v stream before tally = record {
-  exchanges = [];
-  rest = stream;
-  read = [];
-  written = [];
-  requests = refl;
-  rest_is = refl;
-  answers = refl;
-  wrote = told_self before (λ old new. new ≡ old ++ []) (λ u. sym (append-nil u));
-  end = (refl, refl, refl);
-  faults = inl (omega arith);
-}
 
 module _ (v₀ : Viewed) (stream₀ : List ℕ) (before₀ : Option (List ℕ)) (tally₀ : ℕ) where
   module _ (n : ℕ) (v w : Viewed) (stream read left : List ℕ) (before now : Option (List ℕ)) (tally tally' : ℕ) where

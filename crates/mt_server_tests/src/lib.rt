@@ -15,5 +15,3 @@ mod feeds;
 mod fronts;
 #[cfg(test)]
 mod tests;
-#[cfg(test)]
-mod workers;

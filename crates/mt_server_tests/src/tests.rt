@@ -1,7 +1,13 @@
 //! Whole connections, in pieces of several sizes.
 use crate::connections::{Case, assert_served, bounds, empty};
 use mt_server::Ended;
+use std::alloc::Global;
+use std::process::Abort;
+use std::sync::Wait;
 use std::test::Fail;
+
+// The most bytes that a read gives.
+const PIECES: [usize; 4] = [1, 2, 7, 8192];
 
 const QUESTIONS_AND_AN_IMPORT: &[u8] = b"GET /net/2/4/7 HTTP/1.1\r\n\r\n\
 POST /import HTTP/1.1\r\nContent-Length: 158\r\n\r\n\
@@ -25,7 +31,7 @@ HTTP/1.1 409 Conflict\r\nContent-Type: application/json\r\nContent-Length: 44\r\
 #[test]
 fn questions_and_an_import(rt: HostRuntime) -> Result<(), Fail> {
     let (alloc, stream, answers) = (rt.alloc(), QUESTIONS_AND_AN_IMPORT, THEIR_ANSWERS);
-    for piece in [1, 2, 7, 8192] {
+    for piece in PIECES {
         let case = Case::steady(stream, piece, answers, Ended::Done);
         assert_served(&rt, alloc, bounds()?, empty(alloc), &[case])?;
     }
@@ -33,10 +39,17 @@ fn questions_and_an_import(rt: HostRuntime) -> Result<(), Fail> {
 }
 
 // Streams with what is answered and how the connection ends.
-const HOSTILE: [(&[u8], &[u8], Ended); 14] = [
+const HOSTILE: [(&[u8], &[u8], Ended); 17] = [
     (b"", b"", Ended::Done),
     (b"\r\n\r\n", b"", Ended::Done),
     (b"GET /version HTTP/1.1\r\n", b"", Ended::Cut),
+    (&[b'a'; 8191], b"", Ended::Cut),
+    (
+        &[b'a'; 8192],
+        b"HTTP/1.1 431 Request Header Fields Too Large\r\nContent-Type: application/json\r\n\
+Content-Length: 38\r\nConnection: close\r\n\r\n{\"error\":\"head too long\",\"limit\":8192}",
+        Ended::Close,
+    ),
     (
         b"bad\r\n\r\n",
         b"HTTP/1.1 400 Bad Request\r\nContent-Type: application/json\r\nContent-Length: 23\r\n\
@@ -63,6 +76,12 @@ Connection: close\r\n\r\n{\"error\":\"body too long\",\"limit\":65536}",
     ),
     (
         b"POST /import HTTP/1.1\r\nContent-Length: 5\r\nContent-Length: 6\r\n\r\n",
+        b"HTTP/1.1 400 Bad Request\r\nContent-Type: application/json\r\nContent-Length: 23\r\n\
+Connection: close\r\n\r\n{\"error\":\"bad request\"}",
+        Ended::Close,
+    ),
+    (
+        b"POST /import HTTP/1.1\r\nContent-Length: 12345678901234567890\r\n\r\n",
         b"HTTP/1.1 400 Bad Request\r\nContent-Type: application/json\r\nContent-Length: 23\r\n\
 Connection: close\r\n\r\n{\"error\":\"bad request\"}",
         Ended::Close,
@@ -104,12 +123,38 @@ Connection: close\r\n\r\n{\"version\":0}",
     ),
 ];
 
+// A connection comes to this in pieces of every size.
+fn assert_in_pieces<R: Wait + Abort>(
+    rt: &R,
+    alloc: Global,
+    stream: &[u8],
+    answer: &[u8],
+    end: Ended,
+) -> Result<(), Fail> {
+    let cases = PIECES.map(|piece| Case::steady(stream, piece, answer, end));
+    assert_served(rt, alloc, bounds()?, empty(alloc), &cases)
+}
+
 #[test]
 fn hostile_streams(rt: HostRuntime) -> Result<(), Fail> {
-    let alloc = rt.alloc();
     for (stream, answer, end) in HOSTILE {
-        let case = Case::steady(stream, 7, answer, end);
-        assert_served(&rt, alloc, bounds()?, empty(alloc), &[case])?;
+        assert_in_pieces(&rt, rt.alloc(), stream, answer, end)?;
     }
     Ok(())
+}
+
+const OPEN_ANSWER: &[u8] = b"HTTP/1.1 200 OK\r\nContent-Type: application/json\r\n\
+Content-Length: 13\r\n\r\n{\"version\":0}";
+
+const LAST_ANSWER: &[u8] = b"HTTP/1.1 200 OK\r\nContent-Type: application/json\r\n\
+Content-Length: 13\r\nConnection: close\r\n\r\n{\"version\":0}";
+
+// A connection is closed behind its 1,000th response.
+#[test]
+fn more_requests_than_a_connection_has(rt: HostRuntime) -> Result<(), Fail> {
+    let (rt, alloc) = (&rt, rt.alloc());
+    let stream = b"GET /version HTTP/1.1\r\n\r\n".repeat(alloc, 1001)?;
+    let mut answer = OPEN_ANSWER.repeat(alloc, 999)?;
+    answer.extend_from_slice(LAST_ANSWER)?;
+    assert_in_pieces(rt, alloc, &stream, &answer, Ended::Budget)
 }

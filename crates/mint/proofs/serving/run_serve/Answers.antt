@@ -12,20 +12,35 @@ use Rattle.mint.specs.Serving.{IsTurnedAway}
 use Rattle.mint.specs.Statuses.{ending, GivenUp}
 use Rattle.mint.specs.Texts.{usage_text}
 use Rattle.mint.proofs.ChainLemmas.{left_same}
-use Rattle.mint.proofs.ServingLemmas.{refusal_away, refusal_left}
+use Rattle.mint.proofs.ServingLemmas.{loaded_kept, refusal_away, refusal_left}
 use Rattle.mint.proofs.serving.run_serve.Goals as goal
 
 pub returns-in_default-clause-cut : goal.returns-in_default-clause-cut
 returns-in_default-clause-cut g c = λ e. (Words, usage_text, inl (c.in_default.ensures, refl, refl, refl), c.write_answer.ensures.cut e)
 
+pub returns-in-Ok-open-clause-opened : goal.returns-in-Ok-open-clause-opened
+returns-in-Ok-open-clause-opened g c = λ began tell.
+    let s = c.in-Some.serving in
+    let desk = c.in-Ok-open.field-0.desk in (
+      s.bounds,
+      s.workers,
+      s.connections,
+      (s.port, c.in-Some.ensures.0),
+      (
+        desk.history.accepted,
+        loaded_kept s.bounds (g.K.Keeper.records c.args.keeper) (g.K.Keeper.records desk.history.keeper) desk.history.accepted (tell desk.history.keeper)
+            c.in-Ok-open.ensures.accepted,
+      ),
+    )
+
 pub returns-in_default-with_capacity-clause-given_up : goal.returns-in_default-with_capacity-clause-given_up
 returns-in_default-with_capacity-clause-given_up g c = λ e.
-    let s = c.in-Some.serving in (s.bounds, s.workers, s.connections, c.in-Some.ensures.0, left_same (g.K.Keeper.records c.args.keeper), refl)
+    let s = c.in-Some.serving in (s.bounds, s.workers, s.connections, (s.port, c.in-Some.ensures.0), left_same (g.K.Keeper.records c.args.keeper), refl)
 
 pub hire-workers-requires-clause-count : goal.hire-workers-requires-clause-count
 hire-workers-requires-clause-count g c =
     let s = c.in-Some.serving in
-    c.in-Ok-open.field-0.viewers.ok.0 ∙ c.in-Ok-open.ensures.count ∙ sym (c.requires s.bounds s.workers s.connections c.in-Some.ensures.0)
+    c.in-Ok-open.field-0.viewers.ok.0 ∙ c.in-Ok-open.ensures.count ∙ sym (c.requires s.bounds s.workers s.connections (s.port, c.in-Some.ensures.0))
 
 pub staffed-end-requires-clause-few : goal.staffed-end-requires-clause-few
 staffed-end-requires-clause-few g c κs within =
@@ -33,7 +48,7 @@ staffed-end-requires-clause-few g c κs within =
     let workers = c.hire-workers.result in
     let count : length c.args.acceptors.items ≡ length workers.items =
     ap length (sym c.hire-workers.ensures.acceptors) ∙ length-map workers.items (λ w. w.acceptor) in
-    omega (arith, workers.ok.0, count, c.args.acceptors.ok.0, c.requires s.bounds s.workers s.connections c.in-Some.ensures.0, c.in-Some.ensures.2)
+    omega (arith, workers.ok.0, count, c.args.acceptors.ok.0, c.requires s.bounds s.workers s.connections (s.port, c.in-Some.ensures.0), c.in-Some.ensures.2)
 
 pub staffed-end-requires-clause-publication : goal.staffed-end-requires-clause-publication
 staffed-end-requires-clause-publication g c κs within =
@@ -50,7 +65,7 @@ returns-in-Ok-open-clause-served g c = λ began.
       s.bounds,
       s.workers,
       s.connections,
-      c.in-Some.ensures.0,
+      (s.port, c.in-Some.ensures.0),
       (
         served.accepted,
         subst (λ (b : Bounds). IsKept b (g.K.Keeper.records c.close-keeper.result.0) served.accepted) within c.close-keeper.ensures.kept,
@@ -69,7 +84,7 @@ returns-in-Ok-open-clause-served g c = λ began.
     )
 
 pub returns-in-Ok-open-clause-untouched : goal.returns-in-Ok-open-clause-untouched
-returns-in-Ok-open-clause-untouched g c = λ none. let s = c.in-Some.serving in absurd (none s.bounds s.workers s.connections c.in-Some.ensures.0)
+returns-in-Ok-open-clause-untouched g c = λ none. let s = c.in-Some.serving in absurd (none s.bounds s.workers s.connections (s.port, c.in-Some.ensures.0))
 
 pub returns-in-Err-clause-done : goal.returns-in-Err-clause-done
 returns-in-Err-clause-done g c = λ e unbegun.
@@ -83,7 +98,7 @@ returns-in-Err-clause-done g c = λ e unbegun.
     let known = c.write_refusal.ensures.known going in (
       open_text why,
       subst (λ (status : Status). IsTurnedAway words before after status (open_text why)) (sym done.0)
-          (refusal_away words s.bounds s.workers s.connections before after why c.in-Some.ensures.0 c.in-Err.ensures.refused known.0 known.1),
+          (refusal_away words s.bounds s.workers s.connections before after why (s.port, c.in-Some.ensures.0) c.in-Err.ensures.refused known.0 known.1),
       done.1,
     )
 
@@ -96,7 +111,7 @@ returns-in-Err-clause-cut g c = λ e.
       BadStore,
       open_text why,
       refusal_away (map string_bytes c.args.words.now) s.bounds s.workers s.connections (g.K.Keeper.records c.args.keeper) (g.K.Keeper.records c.in-Err.field-0.keeper) why
-          c.in-Some.ensures.0 c.in-Err.ensures.refused known.0 known.1,
+          (s.port, c.in-Some.ensures.0) c.in-Err.ensures.refused known.0 known.1,
       c.write_refusal.ensures.cut e,
     )
 
@@ -106,10 +121,10 @@ returns-in-Err-clause-given_up g c = λ e.
       s.bounds,
       s.workers,
       s.connections,
-      c.in-Some.ensures.0,
+      (s.port, c.in-Some.ensures.0),
       refusal_left s.bounds (g.K.Keeper.records c.args.keeper) (g.K.Keeper.records c.in-Err.field-0.keeper) c.in-Err.field-0.why c.in-Err.ensures.refused,
       c.write_refusal.ensures.unwritten e,
     )
 
 pub returns-in-Err-clause-untouched : goal.returns-in-Err-clause-untouched
-returns-in-Err-clause-untouched g c = λ none. let s = c.in-Some.serving in absurd (none s.bounds s.workers s.connections c.in-Some.ensures.0)
+returns-in-Err-clause-untouched g c = λ none. let s = c.in-Some.serving in absurd (none s.bounds s.workers s.connections (s.port, c.in-Some.ensures.0))
