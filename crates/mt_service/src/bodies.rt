@@ -28,49 +28,39 @@ impl Outcome {
         ensures { IfOk result (λ value. view value ≡ outcome_data self.now) }
     {
         match self {
-            Outcome::Form(refused) => form_value(alloc, *refused),
-            Outcome::NoImport { name } => no_import_value(alloc, name),
-            Outcome::AlreadyWithdrawn { number, name } => import_value(
+            Self::Form(refused) => form_value(alloc, *refused),
+            Self::NoImport { name } => no_import_value(alloc, name),
+            Self::AlreadyWithdrawn { number, name } => import_value(
                 alloc,
                 *number,
                 name,
                 "already withdrawn",
             ),
-            Outcome::Range {
+            Self::Range {
                 name,
                 number,
                 limit,
             } => range_value(alloc, *name, *number, *limit),
-            Outcome::TooManyChoices { count } => choices_value(alloc, *count),
-            Outcome::Already { number, name } => import_value(alloc, *number, name, "already"),
-            Outcome::IsWithdrawn { number, name } => conflict_value(
-                alloc,
-                "withdrawn",
-                *number,
-                name,
-            ),
-            Outcome::NameTaken { number, name } => conflict_value(
-                alloc,
-                "name taken",
-                *number,
-                name,
-            ),
-            Outcome::Full => full_value(alloc),
-            Outcome::Dependent {
+            Self::TooManyChoices { count } => choices_value(alloc, *count),
+            Self::Already { number, name } => import_value(alloc, *number, name, "already"),
+            Self::IsWithdrawn { number, name } => conflict_value(alloc, "withdrawn", *number, name),
+            Self::NameTaken { number, name } => conflict_value(alloc, "name taken", *number, name),
+            Self::Full => full_value(alloc),
+            Self::Dependent {
                 part,
                 choice,
                 coefficients,
                 ..
             } => dependent_value(alloc, *part, choice.sizes(), coefficients.digits()),
-            Outcome::KeeperFault => error_value(alloc, "keeper"),
-            Outcome::Memory => error_value(alloc, "memory"),
-            Outcome::Accepted {
+            Self::KeeperFault => error_value(alloc, "keeper"),
+            Self::Memory => error_value(alloc, "memory"),
+            Self::Accepted {
                 number,
                 name,
                 raised,
                 ..
             } => accepted_value(alloc, *number, name, *raised),
-            Outcome::Withdrawn {
+            Self::Withdrawn {
                 number,
                 name,
                 lowered,

@@ -22,51 +22,39 @@ impl Outcome {
         ensures { IfOk result (λ text. text.items ≡ outcome_text self.now) }
     {
         match self {
-            Outcome::Form(refused) => form_line(alloc, *refused),
-            Outcome::NoImport { name } => name_line(alloc, b"refused: no import ", name),
-            Outcome::AlreadyWithdrawn { number, name } => import_line(
+            Self::Form(refused) => form_line(alloc, *refused),
+            Self::NoImport { name } => name_line(alloc, b"refused: no import ", name),
+            Self::AlreadyWithdrawn { number, name } => import_line(
                 alloc,
                 b"already withdrawn ",
                 *number,
                 name,
                 b"\n",
             ),
-            Outcome::Range {
+            Self::Range {
                 name,
                 number,
                 limit,
             } => range_line(alloc, *name, *number, *limit),
-            Outcome::TooManyChoices { count } => choices_line(alloc, *count),
-            Outcome::Already { number, name } => import_line(
-                alloc,
-                b"already ",
-                *number,
-                name,
-                b"\n",
-            ),
-            Outcome::IsWithdrawn { number, name } => import_line(
-                alloc,
-                b"refused: import ",
-                *number,
-                name,
-                b" is withdrawn\n",
-            ),
-            Outcome::NameTaken { number, name } => taken_line(alloc, *number, name),
-            Outcome::Full => full_line(alloc),
-            Outcome::Dependent {
+            Self::TooManyChoices { count } => choices_line(alloc, *count),
+            Self::Already { number, name } => import_line(alloc, b"already ", *number, name, b"\n"),
+            Self::IsWithdrawn { number, name } => is_withdrawn_line(alloc, *number, name),
+            Self::NameTaken { number, name } => taken_line(alloc, *number, name),
+            Self::Full => full_line(alloc),
+            Self::Dependent {
                 form,
                 part,
                 choice,
                 coefficients,
             } => depends(alloc, *form, *part, choice.sizes(), coefficients.digits()),
-            Outcome::KeeperFault | Outcome::Memory => Ok(Vec::new(alloc)),
-            Outcome::Accepted {
+            Self::KeeperFault | Self::Memory => Ok(Vec::new(alloc)),
+            Self::Accepted {
                 number,
                 name,
                 raised,
                 ..
             } => change_line(alloc, b"accepted ", *number, name, b": raised ", *raised),
-            Outcome::Withdrawn {
+            Self::Withdrawn {
                 number,
                 name,
                 lowered,
@@ -159,6 +147,13 @@ fn change_line(
     push_number(alloc, &mut text, count as u64)?;
     text.push(b'\n')?;
     Ok(text)
+}
+
+fn is_withdrawn_line(alloc: Global, number: u32, name: &Name) -> Result<Vec<u8>, AllocError>
+    ensures { IfOk result (λ text. text.items
+        ≡ codes "refused: import " ++ import_text number name.now ++ codes " is withdrawn\n") }
+{
+    import_line(alloc, b"refused: import ", number, name, b" is withdrawn\n")
 }
 
 fn taken_line(alloc: Global, number: u32, name: &Name) -> Result<Vec<u8>, AllocError>

@@ -9,13 +9,13 @@ use Rattle.mt_cells.specs.declared.instances.Instance.{Instance}
 use Rattle.mt_cells.specs.declared.rules.Rule.{Rule}
 use Rattle.mt_cells.specs.declared.rules.Rule.TheVariants.{Deeper, Product, Uuv}
 use Rattle.mt_cells.specs.declared.rules.RuleSet.{RuleSet}
-use Rattle.mt_cells.specs.Cells.{InBounds, columns_of, coordinates_of}
+use Rattle.mt_cells.specs.Cells.{InBounds, coordinates_of}
 use Rattle.mt_cells.specs.Rules.{HasTarget, target, conclusion, pair_conclusion, deepened_strength, pair_target, HasPairTarget}
 use Rattle.mt_cells.specs.Instances.{has_rule, IsInstance, Leads, conclusion_by, second_or}
 use Rattle.mt_cells.specs.Spots.{least_second, pair_instance, single_instance}
 use Rattle.mt_cells.proofs.RuleLemmas.{Fit, pair_rule, pair_least, has_second}
 use Rattle.mt_derive.specs.Closed.{IsDone}
-use Rattle.mt_table.specs.Needs.{depth_of, IsDeepest, IsOwn, IsNeeded, NoneNeeded}
+use Rattle.mt_table.specs.Needs.{depth_of, IsDeepest, IsOwn, IsNeeded}
 use Rattle.std.proofs.lemmas.Bool.{lt-ltb, eq-eqb}
 
 -- the target has what the rule concludes from the two
@@ -138,10 +138,3 @@ all_done b rules value needed i h = by_parts i.rule i.target i.first i.second h.
     by_parts : (r : Rule) (t f : Cell) (y : Option Cell) → has_rule rules r ≡ true → InBounds b f → Leads b r t f y → conclusion_by r f y (value f) (value (second_or f y)) ≤ value t
     by_parts r t f None has hf l = needed (record { rule = r; target = t; first = f; second = None }) (record { configured = has; first = hf; leads = l }) (record {})
     by_parts r t f (Some y) has hf l = rw l.2 (by_rule r f y has hf l.0 l.1)
-
--- ---- lines
-
--- where all follow none is needed
-pub follow_not : (rules : RuleSet) (r : Rule) (p q : Cell) → NoneNeeded rules r (columns_of p) (depth_of p) (depth_of q) → IsDeepest rules p q → IsOwn rules r p q → ⊥
-follow_not rules r p q (inl h) deep own = let l : min (columns_of p) (depth_of q) ≤ depth_of p = deep h.0 in omega (arith, h.1)
-follow_not rules r p q (inr h) deep own = let l = own h.0 h.1 in omega (arith, h.2, l.1)
